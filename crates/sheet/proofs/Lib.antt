@@ -1,0 +1,6 @@
+-- Lemmas on sheets.
+pub mod Numbers
+pub mod Entries
+pub mod Sheets
+pub mod Maps
+pub mod Needs

@@ -1,0 +1,56 @@
+-- The needs of a record, read one after another.
+use mathlib.Core.Path.{_≡_, refl, sym, ap, _∙_}
+use mathlib.Core.Logic.{⊎-elim}
+use mathlib.Core.List.{List, [], _∷_}
+use Prim.Native.Nat.{ℕ, zero, suc, _+_, _-_, _*_, _≤_, _<_}
+use native.Mathlib.Numerals.{add-one}
+use native.Mathlib.Omega.{arith}
+use lib.ListN.{length, getD}
+use Rattle.std.proofs.shelf.Elements.{all-getD, all-from-getD}
+use Rattle.std.proofs.shelf.Tests.{cases-lt}
+use Rattle.sheet.specs.Places.{number-at, needs-at}
+use Rattle.sheet.specs.Sound.{Ordered}
+
+pub length-needs-at : (bs : List ℕ) (p k : ℕ) → length (needs-at bs p k) ≡ k
+unfolding needs-at
+length-needs-at bs p zero = refl
+length-needs-at bs p (suc k) = ap suc (length-needs-at bs (p + 2) k)
+
+pub getD-needs-at : (bs : List ℕ) (p k j : ℕ) → j < k → getD (needs-at bs p k) j 0 ≡ number-at bs (p + 2 * j) 2
+unfolding needs-at
+getD-needs-at bs p zero j h = absurd (omega arith)
+getD-needs-at bs p (suc k) zero h = ap (λ q. number-at bs q 2) (omega arith)
+getD-needs-at bs p (suc k) (suc j) h = getD-needs-at bs (p + 2) k j (omega arith) ∙ ap (λ q. number-at bs q 2) (omega arith)
+
+-- the first j needs ascend and are other than i, and the next may be `least` or more
+pub record OrderedTo (i : ℕ) (ns : List ℕ) (j least : ℕ) : Type 0 where
+  pub ascending : (k : ℕ) → k + 1 < j → getD ns k 0 < getD ns (k + 1) 0
+  pub others : (k : ℕ) → k < j → getD ns k 0 ≡ i → ⊥
+  pub none : j ≡ 0 → least ≡ 0
+  pub last : (k : ℕ) → k + 1 ≡ j → least ≡ getD ns k 0 + 1
+
+pub ordered-none : (i : ℕ) (ns : List ℕ) → OrderedTo i ns 0 0
+ordered-none i ns = record { ascending = λ k h. absurd (omega arith); others = λ k h. absurd (omega arith); none = λ h. refl; last = λ k h. absurd (omega arith) }
+
+pub ordered-more : (i : ℕ) (ns : List ℕ) (j least x : ℕ) → OrderedTo i ns j least → getD ns j 0 ≡ x → least ≤ x → (x ≡ i → ⊥) → OrderedTo i ns (j + 1) (x + 1)
+ordered-more i ns j least x h is up other = record {
+  ascending = λ k b. ⊎-elim (h .ascending k) (λ (l : j ≤ k + 1). let here : k + 1 ≡ j = omega arith in omega (arith, h .last k here, ap (λ n. getD ns n 0) here)) (cases-lt (k + 1) j);
+  others = λ k b own. ⊎-elim (λ l. h .others k l own) (λ (l : j ≤ k). let here : k ≡ j = omega arith in other (sym is ∙ ap (λ n. getD ns n 0) (sym here) ∙ own)) (cases-lt k j);
+  none = λ e. absurd (omega arith);
+  last = λ k e. let here : k ≡ j = omega arith in omega (arith, ap (λ n. getD ns n 0) here);
+}
+
+pub ordered-all : (i : ℕ) (ns : List ℕ) (j least : ℕ) → OrderedTo i ns j least → length ns ≤ j → Ordered i ns
+ordered-all i ns j least h all = record {
+  ascending = λ k b. h .ascending k (omega arith);
+  others = all-from-getD (λ k. k ≡ i → ⊥) ns 0 (λ k b. h .others k (omega arith));
+}
+
+-- a need that is too small breaks the order
+pub not-ascending : (i : ℕ) (ns : List ℕ) (j least : ℕ) → OrderedTo i ns j least → j < length ns → getD ns j 0 < least → Ordered i ns → ⊥
+not-ascending i ns zero least h inside low all = omega (arith, h .none refl)
+not-ascending i ns (suc j) least h inside low all =
+    omega (arith, h .last j (add-one j), all .ascending j (omega arith), ap (λ n. getD ns n 0) (add-one j))
+
+pub own-number : (i : ℕ) (ns : List ℕ) (j : ℕ) → j < length ns → getD ns j 0 ≡ i → Ordered i ns → ⊥
+own-number i ns j inside own all = all-getD (λ k. k ≡ i → ⊥) ns j 0 inside (all .others) own

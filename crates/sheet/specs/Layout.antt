@@ -1,0 +1,21 @@
+-- Where a bit map puts the fields of a record: what the reader's inner functions agree on.
+use Prim.Native.Nat.{ℕ, zero, suc, _+_, _*_, _/_, _%_}
+use Rattle.std.specs.declared.option.Option.{Option}
+use Rattle.std.specs.declared.option.Option.the-variants.{Some, None}
+use Rattle.sheet.specs.declared.records.Record.{Record}
+
+-- the place p, where the bit stands
+abbrev pub field : ℕ → ℕ → Option ℕ
+field zero p = None
+field (suc b) p = Some p
+
+-- the places in record number i, which begins at byte p with the bit map m and has k needs
+abbrev pub laid : ℕ → ℕ → ℕ → ℕ → Record
+laid i p m k = record {
+  number = i;
+  byte = p;
+  earning = field (m % 2) (p + 1);
+  cost = field (m / 2 % 2) (p + 1 + 4 * (m % 2));
+  needs = p + 1 + 4 * (m % 2) + 4 * (m / 2 % 2);
+  count = k;
+}

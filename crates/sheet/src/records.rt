@@ -1,0 +1,98 @@
+// A record of a sheet, told as places, and the questions that are put to it.
+ghost use mathlib.Core.Path.{_≡_};
+ghost use Prim.Native.Nat.{ℕ, _-_, _/_, _%_, _^_, _<_, _≤_};
+ghost use Rattle.std.specs.Options.{Cases};
+ghost use Rattle.std.specs.Options.{mapped};
+ghost use Rattle.std.specs.Orderings.{Decides};
+ghost use lib.ListN.{length};
+ghost use Rattle.sheet.specs.Layout.{field, laid};
+ghost use Rattle.sheet.specs.Places.{number-at, needs-at};
+ghost use Rattle.sheet.specs.Sound.{InRange, Ordered};
+use super::bytes::amount_at;
+use super::bytes::need_at;
+
+// The largest amount of an entry.
+const MOST_AMOUNT: u32 = 1_000_000;
+
+// A record told as places in its sheet. Its kind is which fields it has: an amount that it lacks has no place.
+#[derive(Clone, Copy, PartialEq, Eq, Debug)]
+pub struct Record {
+    // the number of its entry
+    pub number: usize,
+    // the place of its bit map
+    pub byte: usize,
+    pub earning: Option<usize>,
+    pub cost: Option<usize>,
+    // the place of its first need, and how many there are
+    pub needs: usize,
+    pub count: usize,
+}
+
+// How many needs a bit map announces, or none where its need bits leave a gap from bit 2 up.
+fn need_count(map: u8) -> Option<usize>
+    ensures { λ r. ⌜ Cases r (((k : ℕ) × (map / 4 % 16 ≡ 2 ^ k - 1)) → ⊥) (λ k. (k ≤ 4) × (map / 4 % 16 ≡ 2 ^ k - 1)) ⌝ }
+{
+    match (map >> 2) & 15 {
+        0b0000 => Some(0),
+        0b0001 => Some(1),
+        0b0011 => Some(2),
+        0b0111 => Some(3),
+        0b1111 => Some(4),
+        _ => None,
+    }
+}
+
+fn present(bit: u8, place: usize) -> Option<usize>
+    ensures { λ r. ⌜ r ≡ field bit place ⌝ }
+{
+    if bit == 0 { None } else { Some(place) }
+}
+
+// Where the fields stand of a record that begins at `byte` with the bit map `map`.
+fn layout(number: usize, byte: usize, map: u8, count: usize) -> Record
+    requires { ⌜ byte < 2 ^ 63 ⌝ }
+    ensures { λ r. ⌜ r ≡ laid number byte map count ⌝ }
+{
+    let earning = map & 1;
+    let cost = (map >> 1) & 1;
+    let after_map = byte + 1;
+    let after_earning = after_map + 4 * usize::from(earning);
+    Record {
+        number,
+        byte,
+        earning: present(earning, after_map),
+        cost: present(cost, after_earning),
+        needs: after_earning + 4 * usize::from(cost),
+        count,
+    }
+}
+
+// Whether the amount at a place, if it has one, is between 1 and the largest.
+fn amount_in_range(sheet: &[u8], place: Option<usize>) -> bool
+    ensures { λ r. ⌜ Decides r (InRange (mapped (λ p. number-at (now (sheet .entry)) p 4) place)) ⌝ }
+{
+    match place {
+        None => true,
+        Some(at) => {
+            let amount = amount_at(sheet, at);
+            1 <= amount && amount <= MOST_AMOUNT
+        }
+    }
+}
+
+// Whether the needs of a record ascend, and none is its own number.
+fn needs_ordered(sheet: &[u8], found: &Record) -> bool
+    requires { ⌜ now found .count ≤ 4 ⌝ }
+    ensures { λ r. ⌜ Decides r (Ordered (now (found .entry) .number) (needs-at (now (sheet .entry)) (now (found .entry) .needs) (now (found .entry) .count))) ⌝ }
+{
+    // the least number that the next need may have
+    let mut least = 0;
+    for j in 0..found.count {
+        let need = usize::from(need_at(sheet, found.needs, 2 * j));
+        if need < least || need == found.number {
+            return false;
+        }
+        least = need + 1;
+    }
+    true
+}
