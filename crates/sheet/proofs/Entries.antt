@@ -86,7 +86,7 @@ needs-same (x ∷ ms) (y ∷ ns) s t k a b same =
     let (fields, tail) = needs-same ms ns s t (omega arith) (a .1) (b .1) rest in
     (let first = bytes-same 2 x y (a .0) (b .0) field in cc, tail)
 
-regroup : (a b c d : List ℕ) → (a ++ (b ++ c)) ++ d ≡ a ++ (b ++ (c ++ d))
+pub regroup : (a b c d : List ℕ) → (a ++ (b ++ c)) ++ d ≡ a ++ (b ++ (c ++ d))
 regroup a b c d = simp append-assoc
 
 -- two records that begin the same bytes are one, and leave the same bytes after it

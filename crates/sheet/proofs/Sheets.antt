@@ -21,7 +21,7 @@ use Rattle.sheet.specs.declared.refusal.SheetRefusal.the-variants.{Empty, Faul
 use Rattle.sheet.specs.Format.{Entry, bit-map, flag, entry-bytes, sheet-bytes}
 use Rattle.sheet.specs.Sound.{Fits, Sound, Numbered, There, WellFormed, counts}
 use Rattle.sheet.specs.Refusals.{question, questions, asked-before}
-use Rattle.sheet.specs.Answers.{Begins, Free, First, FaultyAt, MissingAt, SheetOf, Answers}
+use Rattle.sheet.specs.Answers.{Begins, Free, First, FaultyAt, MissingAt, SoundSheet, SheetOf, Answers}
 use Rattle.sheet.proofs.Entries.{flag-small, entry-same}
 
 -- the map of an entry that fits has no other bits than its fields'
@@ -232,3 +232,25 @@ one-answer bs (Err (Missing i p)) (Ok c) x (es, y, c-is) = absurd (none-missing 
 one-answer bs (Err (Missing i p)) (Err Empty) x y = absurd (not-empty bs _ (missing bs i p x) (missing-some bs i p x) y)
 one-answer bs (Err (Missing i p)) (Err (Faulty g j q)) x y = absurd (no-fault bs _ g j q (missing bs i p x) y)
 one-answer bs (Err (Missing i p)) (Err (Missing j q)) x y = ap Err (same-missing bs i j p q x y)
+
+-- sound records are read in one way
+sound-same : (bs : List ℕ) (ds es : List Entry) → SoundSheet bs ds → SoundSheet bs es → ds ≡ es
+sound-same bs ds es x y = parsed-same bs ds es [] [] (all-sound bs ds (x .whole) (x .sound)) (all-sound bs es (y .whole) (y .sound)) .0
+
+some-entries : (bs : List ℕ) (es : List Entry) → (bs ≡ [] → ⊥) → bs ≡ sheet-bytes es → 0 < length es
+unfolding sheet-bytes
+some-entries bs [] some whole = absurd (some whole)
+some-entries bs (e ∷ es) some whole = omega arith
+
+-- a sheet that passed both rounds of questions is accepted
+pub accepted : (bs : List ℕ) (c : Counts) → (bs ≡ [] → ⊥) → (es : List Entry) × SoundSheet bs es × (c ≡ counts es) → (es : List Entry) × SoundSheet bs es × All (There (c .entries)) es → Answers bs (Ok c)
+accepted bs c some (ds, x, is) (es, y, there) =
+    let same = sound-same bs ds es x y in
+    let number = ap (λ (n : Counts). n .entries) is ∙ ap length same in (
+      es,
+      record {
+        well = record { some = some-entries bs es some (y .whole); sound = y .sound; there = subst (λ n. All (There n) es) number there };
+        whole = y .whole;
+      },
+      is ∙ ap counts same,
+    )

@@ -58,6 +58,11 @@ pub record MissingAt (bs : List ℕ) (i p : ℕ) : Type 0 where
   pub there : All (There (length (before ++ entry ∷ after))) before
   pub missing : There (length (before ++ entry ∷ after)) entry → ⊥
 
+-- bs is the records of es, each sound by itself
+pub record SoundSheet (bs : List ℕ) (es : List Entry) : Type 0 where
+  pub whole : bs ≡ sheet-bytes es
+  pub sound : Numbered Sound 0 es
+
 -- bs is the sheet of the well-formed list es
 pub record SheetOf (bs : List ℕ) (es : List Entry) : Type 0 where
   pub well : WellFormed es
@@ -69,3 +74,7 @@ Answers bs (Ok c) = (es : List Entry) × SheetOf bs es × (c ≡ counts es)
 Answers bs (Err Empty) = bs ≡ []
 Answers bs (Err (Faulty f i p)) = FaultyAt bs f i p
 Answers bs (Err (Missing i p)) = MissingAt bs i p
+
+-- bs is the sheet of one list at most
+abbrev pub OneList : List ℕ → Type 0
+OneList bs = (ds es : List Entry) → SheetOf bs ds → SheetOf bs es → ds ≡ es

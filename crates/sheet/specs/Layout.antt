@@ -19,3 +19,7 @@ laid i p m k = record {
   needs = p + 1 + 4 * (m % 2) + 4 * (m / 2 % 2);
   count = k;
 }
+
+-- how many bytes a record has whose bit map is m and that has k needs
+abbrev pub size : ℕ → ℕ → ℕ
+size m k = 1 + 4 * (m % 2) + 4 * (m / 2 % 2) + 2 * k

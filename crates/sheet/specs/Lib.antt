@@ -5,3 +5,4 @@ pub mod Refusals
 pub mod Answers
 pub mod Places
 pub mod Layout
+pub mod Readers

@@ -41,6 +41,10 @@ abbrev pub amount : Option ℕ → ℕ
 amount None = 0
 amount (Some x) = x
 
+-- need number j of an entry, if it has so many
+abbrev pub need-of : Entry → ℕ → Option ℕ
+need-of e j = cond (ltb j (length (e .needs))) (Some (getD (e .needs) j 0)) None
+
 -- the place p, where the field is there
 abbrev pub place : Option ℕ → ℕ → Option ℕ
 place o p = mapped (λ _. p) o
@@ -83,3 +87,7 @@ abbrev pub Handed : List ℕ → Cursor → Cursor → Result (Option Record) Sh
 Handed bs from to (Ok None) = (length bs ≤ from .at) × (to ≡ from)
 Handed bs from to (Ok (Some r)) = HandedOut bs from to r
 Handed bs from to (Err x) = Refused bs from to x
+
+-- where the sound record of e stands next, it is handed out, and e is what stands at its places
+abbrev pub InTurn : List ℕ → Cursor → Result (Option Record) SheetRefusal → Type 0
+InTurn bs from r = (e : Entry) (tail : List ℕ) → Sound (from .number) e → drop (from .at) bs ≡ entry-bytes e ++ tail → (r ≡ Ok (Some (placed (from .number) (from .at) e))) × (entry-at bs (placed (from .number) (from .at) e) ≡ e)

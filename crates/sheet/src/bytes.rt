@@ -1,6 +1,6 @@
 // Numbers read from the bytes of a sheet, high byte first.
 ghost use mathlib.Core.Path.{_≡_};
-ghost use Prim.Native.Nat.{_+_, _<_};
+ghost use Prim.Native.Nat.{_+_, _*_};
 ghost use lib.ListN.{getD};
 ghost use Rattle.sheet.specs.Places.{number-at};
 
@@ -27,10 +27,10 @@ pub(crate) fn amount_at(sheet: &[u8], at: usize) -> u32
     ])
 }
 
-// The need whose two bytes begin `k` past `at`.
-pub(crate) fn need_at(sheet: &[u8], at: usize, k: usize) -> u16
-    requires { ⌜ k < 65536 ⌝ }
-    ensures { λ r. ⌜ r ≡ number-at (now (sheet .entry)) (at + k) 2 ⌝ }
+// Need number `j` of those that begin at `at`.
+pub(crate) fn need_at(sheet: &[u8], at: usize, j: u8) -> u16
+    ensures { λ r. ⌜ r ≡ number-at (now (sheet .entry)) (at + 2 * j) 2 ⌝ }
 {
+    let k = 2 * usize::from(j);
     u16::from_be_bytes([byte_at(sheet, at, k), byte_at(sheet, at, k + 1)])
 }

@@ -1,12 +1,16 @@
 // The order sheet: what a sheet of bytes stands for, read where it lies.
 mod bytes;
+mod reading;
 mod records;
 mod refusal;
+mod whole;
 
+pub use reading::Reader;
 pub use records::Record;
 pub use refusal::Fault;
 pub use refusal::SheetRefusal;
 pub use refusal::Told;
+pub use whole::read;
 
 // How many entries a sheet has, and how many needs all of them together.
 #[derive(Clone, Copy, PartialEq, Eq, Debug)]

@@ -1,17 +1,22 @@
 // A record of a sheet, told as places, and the questions that are put to it.
 ghost use mathlib.Core.Path.{_≡_};
-ghost use Prim.Native.Nat.{ℕ, _-_, _/_, _%_, _^_, _<_, _≤_};
+ghost use Prim.Native.Nat.{ℕ, _+_, _-_, _*_, _/_, _%_, _^_, _<_, _≤_};
 ghost use Rattle.std.specs.Options.{Cases};
 ghost use Rattle.std.specs.Options.{mapped};
 ghost use Rattle.std.specs.Orderings.{Decides};
-ghost use lib.ListN.{length};
+ghost use Rattle.std.specs.Results.{Cases as ByOk};
+ghost use Rattle.sheet.specs.Answers.{First};
+ghost use lib.ListN.{length, drop};
 ghost use Rattle.sheet.specs.Layout.{field, laid};
-ghost use Rattle.sheet.specs.Places.{number-at, needs-at};
+ghost use Rattle.sheet.specs.Places.{number-at, needs-at, HandedOut};
 ghost use Rattle.sheet.specs.Sound.{InRange, Ordered};
 use super::bytes::amount_at;
 use super::bytes::need_at;
+use super::refusal::Fault;
 
-// The largest amount of an entry.
+// How many entries a sheet may have, and the largest amount of an entry.
+const MOST_ENTRIES: usize = 4_096;
+
 const MOST_AMOUNT: u32 = 1_000_000;
 
 // A record told as places in its sheet. Its kind is which fields it has: an amount that it lacks has no place.
@@ -25,11 +30,11 @@ pub struct Record {
     pub cost: Option<usize>,
     // the place of its first need, and how many there are
     pub needs: usize,
-    pub count: usize,
+    pub count: u8,
 }
 
 // How many needs a bit map announces, or none where its need bits leave a gap from bit 2 up.
-fn need_count(map: u8) -> Option<usize>
+fn need_count(map: u8) -> Option<u8>
     ensures { λ r. ⌜ Cases r (((k : ℕ) × (map / 4 % 16 ≡ 2 ^ k - 1)) → ⊥) (λ k. (k ≤ 4) × (map / 4 % 16 ≡ 2 ^ k - 1)) ⌝ }
 {
     match (map >> 2) & 15 {
@@ -49,7 +54,7 @@ fn present(bit: u8, place: usize) -> Option<usize>
 }
 
 // Where the fields stand of a record that begins at `byte` with the bit map `map`.
-fn layout(number: usize, byte: usize, map: u8, count: usize) -> Record
+fn layout(number: usize, byte: usize, map: u8, count: u8) -> Record
     requires { ⌜ byte < 2 ^ 63 ⌝ }
     ensures { λ r. ⌜ r ≡ laid number byte map count ⌝ }
 {
@@ -88,11 +93,49 @@ fn needs_ordered(sheet: &[u8], found: &Record) -> bool
     // the least number that the next need may have
     let mut least = 0;
     for j in 0..found.count {
-        let need = usize::from(need_at(sheet, found.needs, 2 * j));
+        let need = usize::from(need_at(sheet, found.needs, j));
         if need < least || need == found.number {
             return false;
         }
         least = need + 1;
     }
     true
+}
+
+impl Record {
+    // The place after its last byte.
+    pub(crate) fn end(&self) -> usize
+        requires { ⌜ now self .needs + 2 * now self .count < 2 ^ 64 ⌝ }
+        ensures { λ r. ⌜ r ≡ now (self .entry) .needs + 2 * now (self .entry) .count ⌝ }
+    {
+        self.needs + 2 * usize::from(self.count)
+    }
+}
+
+// The record that begins at `at` and has the number `number`, or the first fault that a question finds.
+pub(crate) fn record_at(sheet: &[u8], number: usize, at: usize) -> Result<Record, Fault>
+    requires { ⌜ at < length (now sheet) ⌝ }
+    ensures { λ r. ⌜ ByOk r (λ found. HandedOut (now (sheet .entry)) (record { at = at; number = number }) (record { at = found .needs + 2 * found .count; number = number + 1 }) found) (λ fault. First fault number (drop at (now (sheet .entry)))) ⌝ }
+{
+    if number >= MOST_ENTRIES {
+        return Err(Fault::TooMany);
+    }
+    let map = sheet[at];
+    if map >= 64 {
+        return Err(Fault::HighBits);
+    }
+    let Some(count) = need_count(map) else {
+        return Err(Fault::NeedGap);
+    };
+    let found = layout(number, at, map, count);
+    if found.end() > sheet.len() {
+        return Err(Fault::CutShort);
+    }
+    if !amount_in_range(sheet, found.earning) || !amount_in_range(sheet, found.cost) {
+        return Err(Fault::AmountRange);
+    }
+    if !needs_ordered(sheet, &found) {
+        return Err(Fault::NeedOrder);
+    }
+    Ok(found)
 }

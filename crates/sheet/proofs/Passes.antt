@@ -1,0 +1,115 @@
+-- The two passes over a sheet: what each knows between two turns.
+use mathlib.Core.Path.{_≡_, refl, sym, ap, _∙_, subst}
+use mathlib.Core.Bool.{cond}
+use mathlib.Core.Logic.{⊎-elim}
+use mathlib.Core.List.{List, [], _∷_, _++_}
+use Prim.Native.Nat.{ℕ, zero, suc, _+_, _-_, _*_, _≤_, _<_}
+use native.Mathlib.Nat.{add-zero}
+use native.Mathlib.Numerals.{add-one}
+use native.Mathlib.Omega.{arith}
+use lib.Dec.{ltb}
+use lib.ListN.{length, getD, drop}
+use Rattle.std.proofs.shelf.Elements.{all-push, all-getD, all-from-getD}
+use Rattle.std.proofs.shelf.Lists.{append-assoc, length-push, length-append}
+use Rattle.std.specs.declared.option.Option.{Option}
+use Rattle.std.specs.declared.option.Option.the-variants.{Some, None}
+use Rattle.std.specs.declared.result.Result.the-variants.{Ok, Err}
+use Rattle.std.specs.shelf.Lists.{All}
+use Rattle.sheet.specs.declared.Counts.{Counts}
+use Rattle.sheet.specs.declared.records.Record.{Record}
+use Rattle.sheet.specs.declared.refusal.SheetRefusal.{SheetRefusal}
+use Rattle.sheet.specs.declared.refusal.SheetRefusal.the-variants.{Missing}
+use Rattle.sheet.specs.Format.{Entry, entry-bytes, sheet-bytes}
+use Rattle.sheet.specs.Sound.{Fits, Ordered, Sound, Numbered, There, need-count, counts}
+use Rattle.sheet.specs.Answers.{SoundSheet, MissingAt, Answers}
+use Rattle.sheet.specs.Places.{entry-at, placed, need-of, Cursor, HandedOut, Refused}
+use Rattle.sheet.specs.Readers.{start}
+use Rattle.sheet.proofs.Entries.{entry-same}
+use Rattle.sheet.proofs.Turns.{entry-some, Progress, progress-none, progress-more, progress-done}
+
+need-count-push : (es : List Entry) (e : Entry) → need-count (es ++ e ∷ []) ≡ need-count es + length (e .needs)
+need-count-push [] e = omega arith
+need-count-push (d ∷ es) e = omega (arith, need-count-push es e)
+
+-- the first pass: what it has read, and how many entries and needs that is
+pub record Counting (bs : List ℕ) (from : Cursor) (entries needs : ℕ) : Type 0 where
+  pub read : List Entry
+  pub progress : Progress bs read from
+  pub entries-are : entries ≡ length read
+  pub needs-are : needs ≡ need-count read
+  pub few : needs ≤ 4 * entries
+
+pub counting-none : (bs : List ℕ) → Counting bs start 0 0
+counting-none bs = record { read = []; progress = progress-none bs; entries-are = refl; needs-are = refl; few = omega arith }
+
+pub counting-more : (bs : List ℕ) (from to : Cursor) (entries needs : ℕ) (r : Record) → Counting bs from entries needs → HandedOut bs from to r → Counting bs to (entries + 1) (needs + r .count)
+counting-more bs from to entries needs r c h =
+    let e = entry-at bs r in
+    let count : r .count ≡ length (e .needs) = ap (λ (x : Record). x .count) (h .places) in
+    let few = h .sound .fits .few in
+    record {
+      read = c .read ++ e ∷ [];
+      progress = progress-more bs (c .read) from to r (c .progress) h;
+      entries-are = omega (arith, c .entries-are, length-push (c .read) e);
+      needs-are = omega (arith, c .needs-are, need-count-push (c .read) e);
+      few = omega (arith, c .few);
+    }
+
+pub counting-done : (bs : List ℕ) (from : Cursor) (entries needs : ℕ) (n : Counts) → Counting bs from entries needs → length bs ≤ from .at → n ≡ record { entries = entries; needs = needs } → (es : List Entry) × SoundSheet bs es × (n ≡ counts es)
+counting-done bs from entries needs n c end is =
+    (c .read, progress-done bs (c .read) from (c .progress) end, is ∙ (λ i. record { entries = c .entries-are i; needs = c .needs-are i }))
+
+-- an entry's record is not nothing
+not-nothing : (e : Entry) (t : List ℕ) → entry-bytes e ++ t ≡ [] → ⊥
+not-nothing e t same = omega (arith, ap length same, length-append (entry-bytes e) t, entry-some e)
+
+-- records that were read are the first of all
+rest-of : (i : ℕ) (ds es : List Entry) (e : Entry) (t : List ℕ) → Numbered Sound i ds → Fits e → Numbered Sound i es → sheet-bytes ds ++ (entry-bytes e ++ t) ≡ sheet-bytes es → (after : List Entry) × (es ≡ ds ++ e ∷ after)
+unfolding sheet-bytes
+rest-of i [] [] e t a fits b same = absurd (not-nothing e t same)
+rest-of i [] (f ∷ es) e t a fits b same =
+    let first = entry-same e f t (sheet-bytes es) fits (b .0 .fits) same .0 in
+    (es, ap (λ x. x ∷ es) (sym first))
+rest-of i (d ∷ ds) [] e t a fits b same = absurd (not-nothing d (sheet-bytes ds ++ (entry-bytes e ++ t)) (sym (append-assoc (entry-bytes d) (sheet-bytes ds) (entry-bytes e ++ t)) ∙ same))
+rest-of i (d ∷ ds) (f ∷ es) e t a fits b same =
+    let (first, more) = entry-same d f (sheet-bytes ds ++ (entry-bytes e ++ t)) (sheet-bytes es) (a .0 .fits) (b .0 .fits) (sym (append-assoc (entry-bytes d) (sheet-bytes ds) (entry-bytes e ++ t)) ∙ same) in
+    let (after, is) = rest-of (suc i) ds es e t (a .1) fits (b .1) more in
+    (after, cc)
+
+-- the second pass: what it has read needs only entries that are there
+pub record Checking (bs : List ℕ) (n : ℕ) (from : Cursor) : Type 0 where
+  pub read : List Entry
+  pub progress : Progress bs read from
+  pub there : All (There n) read
+
+pub checking-none : (bs : List ℕ) (n : ℕ) → Checking bs n start
+checking-none bs n = record { read = []; progress = progress-none bs; there = tt }
+
+pub checking-more : (bs : List ℕ) (n : ℕ) (from to : Cursor) (r : Record) → Checking bs n from → HandedOut bs from to r → There n (entry-at bs r) → Checking bs n to
+checking-more bs n from to r c h there = record {
+  read = c .read ++ entry-at bs r ∷ [];
+  progress = progress-more bs (c .read) from to r (c .progress) h;
+  there = all-push (There n) (c .read) (entry-at bs r) (c .there) there;
+}
+
+-- the first record that needs an entry that is not there
+pub checking-missing : (bs : List ℕ) (n : ℕ) (from to : Cursor) (r : Record) → (es : List Entry) × SoundSheet bs es × (n ≡ length es) → Checking bs n from → HandedOut bs from to r → (There n (entry-at bs r) → ⊥) → Answers bs (Err (Missing (r .number) (r .byte)))
+checking-missing bs n from to r (es, s, long) c h missing =
+    let e = entry-at bs r in
+    let p = c .progress in
+    let (after, is) = rest-of 0 (c .read) es e (drop (to .at) bs) (p .sound) (h .sound .fits) (s .sound) (sym (p .whole ∙ ap (λ l. sheet-bytes (c .read) ++ l) (h .whole)) ∙ s .whole) in
+    let all : n ≡ length (c .read ++ e ∷ after) = long ∙ ap length is in
+    record {
+      before = c .read;
+      entry = e;
+      after = after;
+      whole = s .whole ∙ ap sheet-bytes is;
+      sound = subst (Numbered Sound 0) is (s .sound);
+      number = ap (λ (x : Record). x .number) (h .places) ∙ p .number;
+      place = ap (λ (x : Record). x .byte) (h .places) ∙ p .place;
+      there = subst (λ m. All (There m) (c .read)) all (c .there);
+      missing = subst (λ m. There m e → ⊥) all missing;
+    }
+
+pub checking-done : (bs : List ℕ) (n : ℕ) (from : Cursor) → Checking bs n from → length bs ≤ from .at → (es : List Entry) × SoundSheet bs es × All (There n) es
+checking-done bs n from c end = (c .read, progress-done bs (c .read) from (c .progress) end, c .there)

@@ -1,0 +1,41 @@
+use mathlib.Core.Path.{refl}
+use native.Mathlib.Omega.{arith}
+use Rattle.std.proofs.shelf.Tests.{false≢true}
+use Rattle.sheet.proofs.Questions.{Laid, laid-is, high-bits, need-gap, cut-short, amount-range, need-order, handed-out}
+use Rattle.sheet.proofs.records.record_at.Needs as need
+use Rattle.sheet.proofs.records.record_at.Needs.{After-layout-found, then-not-amount-in-range·by·then-not-amount-in-range, then-not-amount-in-range·by·else-not-amount-in-range·then-not-amount-in-range-2}
+
+-- what `layout` laid is the record at the place
+found : (c : After-layout-found) → Laid (c .args .sheet .now) (c .args .number) (c .args .at) (c .layout-found .result)
+found c =
+    laid-is _ _ _ _ _ _ (λ k. c .typed .sheet k .fits) (c .pre) (c .if-number-ge-MOST-ENTRIES .left) refl (c .if-map-ge64 .left)
+    (c .in-Some .ensures tt .1) (c .in-Some .ensures tt .0) (c .layout-found .ensures)
+
+pub returns-then-map-ge64 : need.returns-then-map-ge64
+returns-then-map-ge64 c = high-bits (c .args .sheet .now) _ (c .args .at) (c .if-number-ge-MOST-ENTRIES .left) (c .if-map-ge64 .taken)
+
+pub returns-in-rest : need.returns-in-rest
+returns-in-rest c = need-gap (c .args .sheet .now) _ (c .args .at) (c .if-number-ge-MOST-ENTRIES .left) (c .if-map-ge64 .left) (c .in-rest .ensures tt)
+
+pub returns-then-end-sheet : need.returns-then-end-sheet
+returns-then-end-sheet c =
+    cut-short _ _ _ _ (found (need.at·returns-then-end-sheet c .After-layout-found)) (omega (arith, c .end .ensures, c .if-end-sheet .taken))
+
+pub returns-then-not-amount-in-range : need.returns-then-not-amount-in-range
+returns-then-not-amount-in-range c =
+    amount-range _ _ _ _ (found (need.at·returns-then-not-amount-in-range c .After-layout-found)) (omega (arith, c .end .ensures, c .if-end-sheet .left))
+    (λ (earning, cost). elim (c .then-not-amount-in-range .came) [
+      | then-not-amount-in-range·by·then-not-amount-in-range w ↦ false≢true (w .if-not-amount-in-range .ensures tt .1 earning)
+      | then-not-amount-in-range·by·else-not-amount-in-range·then-not-amount-in-range-2 w ↦ false≢true (w .if-not-amount-in-range-2 .ensures tt .1 cost)
+    ])
+
+pub returns-then-not-needs-ordered : need.returns-then-not-needs-ordered
+returns-then-not-needs-ordered c =
+    need-order _ _ _ _ (found (need.at·returns-then-not-needs-ordered c .After-layout-found)) (omega (arith, c .end .ensures, c .if-end-sheet .left))
+    (c .if-not-amount-in-range .ensures tt .0 refl) (c .if-not-amount-in-range-2 .ensures tt .0 refl)
+    (λ ordered. false≢true (c .if-not-needs-ordered .ensures tt .1 ordered))
+
+pub returns : need.returns
+returns c =
+    handed-out _ _ _ _ (found (need.at·returns c .After-layout-found)) (omega (arith, c .end .ensures, c .if-end-sheet .left))
+    (c .if-not-amount-in-range .ensures tt .0 refl) (c .if-not-amount-in-range-2 .ensures tt .0 refl) (c .if-not-needs-ordered .ensures tt .0 refl)

@@ -1,0 +1,15 @@
+-- What a reader is: its sheet and its cursor.
+use mathlib.Core.List.{List}
+use Prim.Native.Nat.{ℕ}
+use Rattle.sheet.specs.declared.reading.Reader.{Reader}
+use Rattle.sheet.specs.Places.{Cursor}
+
+abbrev pub sheet-of : Reader → List ℕ
+sheet-of r = r .sheet .now
+
+abbrev pub cursor : Reader → Cursor
+cursor r = record { at = r .at; number = r .number }
+
+-- before the first record
+abbrev pub start : Cursor
+start = record { at = 0; number = 0 }
