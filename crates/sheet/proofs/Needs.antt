@@ -9,10 +9,11 @@ use native.Mathlib.Omega.{arith}
 use lib.ListN.{length, getD}
 use Rattle.std.proofs.shelf.Elements.{all-getD, all-from-getD}
 use Rattle.std.proofs.shelf.Tests.{cases-lt}
-use Rattle.std.proofs.shelf.Ways.{tells}
+use Rattle.std.proofs.shelf.Maps.{nth-getD, nth-past}
+use Rattle.std.specs.shelf.Maps.{nth}
 use Rattle.std.specs.declared.option.Option.the-variants.{Some, None}
 use Rattle.sheet.specs.Format.{Entry}
-use Rattle.sheet.specs.Places.{number-at, needs-at, need-of}
+use Rattle.sheet.specs.Places.{number-at, needs-at}
 use Rattle.sheet.specs.Sound.{Ordered, There}
 
 pub length-needs-at : (bs : List ℕ) (p k : ℕ) → length (needs-at bs p k) ≡ k
@@ -59,12 +60,13 @@ not-ascending i ns (suc j) least h inside low all =
 pub own-number : (i : ℕ) (ns : List ℕ) (j : ℕ) → j < length ns → getD ns j 0 ≡ i → Ordered i ns → ⊥
 own-number i ns j inside own all = all-getD (λ k. k ≡ i → ⊥) ns j 0 inside (all .others) own
 
--- what an answer for need number j tells
-pub need-none : (e : Entry) (j : ℕ) → None ≡ need-of e j → length (e .needs) ≤ j
-need-none e j is = grind (arith, tells)
+-- what an answer for number j tells of a list
+nth-none : (ns : List ℕ) (j : ℕ) → None ≡ nth ns j → length ns ≤ j
+nth-none ns j is = grind (arith, nth-getD ns j 0, cases-lt j (length ns))
 
-pub need-some : (e : Entry) (j x : ℕ) → Some x ≡ need-of e j → (j < length (e .needs)) × (x ≡ getD (e .needs) j 0)
-need-some e j x is = (grind (arith, tells), grind (arith, tells))
+nth-some : (ns : List ℕ) (j x : ℕ) → Some x ≡ nth ns j → (j < length ns) × (x ≡ getD ns j 0)
+nth-some ns j x is =
+    ⊎-elim (λ (l : j < length ns). (l, let some = nth-getD ns j 0 l in cc)) (λ (l : length ns ≤ j). let none = nth-past ns j l in let z : _≡_ {A = ℕ} 0 1 = cc in absurd (omega arith)) (cases-lt j (length ns))
 
 -- needs that ascend are at most the last one
 ascends : (i : ℕ) (ns : List ℕ) → Ordered i ns → (k d : ℕ) → k + d < length ns → getD ns k 0 ≤ getD ns (k + d) 0
@@ -74,22 +76,22 @@ ascends i ns o k (suc d) inside =
     omega (arith, ascends i ns o k d (omega arith), o .ascending (k + d) (omega arith), ap (λ j. getD ns j 0) next)
 
 -- no need, no entry that is not there
-pub none-there : (n j : ℕ) (e : Entry) → j ≡ length (e .needs) - 1 → None ≡ need-of e j → There n e
+pub none-there : (n j : ℕ) (e : Entry) → j ≡ length (e .needs) - 1 → None ≡ nth (e .needs) j → There n e
 none-there n j e last is =
-    let none = need-none e j is in
+    let none = nth-none (e .needs) j is in
     all-from-getD (λ k. k < n) (e .needs) 0 (λ k inside. absurd (omega arith))
 
 -- the last need is there exactly when all are
-pub last-there : (n i j x : ℕ) (e : Entry) → Ordered i (e .needs) → j ≡ length (e .needs) - 1 → Some x ≡ need-of e j → x < n → There n e
+pub last-there : (n i j x : ℕ) (e : Entry) → Ordered i (e .needs) → j ≡ length (e .needs) - 1 → Some x ≡ nth (e .needs) j → x < n → There n e
 last-there n i j x e o last is below =
-    let (inside, value) = need-some e j x is in
+    let (inside, value) = nth-some (e .needs) j x is in
     all-from-getD (λ k. k < n) (e .needs) 0 (λ k at.
     let d = j - k in
     let end : k + d ≡ j = omega arith in
     omega (arith, ascends i (e .needs) o k d (omega arith), ap (λ m. getD (e .needs) m 0) end)
     )
 
-pub all-there : (n j x : ℕ) (e : Entry) → Some x ≡ need-of e j → There n e → x < n
+pub all-there : (n j x : ℕ) (e : Entry) → Some x ≡ nth (e .needs) j → There n e → x < n
 all-there n j x e is there =
-    let (inside, value) = need-some e j x is in
+    let (inside, value) = nth-some (e .needs) j x is in
     omega (arith, all-getD (λ k. k < n) (e .needs) j 0 inside there)

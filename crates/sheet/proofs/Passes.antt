@@ -13,6 +13,7 @@ use Rattle.std.proofs.shelf.Elements.{all-push, all-getD, all-from-getD}
 use Rattle.std.proofs.shelf.Lists.{append-assoc, length-push, length-append}
 use Rattle.std.specs.declared.option.Option.{Option}
 use Rattle.std.specs.declared.option.Option.the-variants.{Some, None}
+use Rattle.std.specs.declared.result.Result.{Result}
 use Rattle.std.specs.declared.result.Result.the-variants.{Ok, Err}
 use Rattle.std.specs.shelf.Lists.{All}
 use Rattle.sheet.specs.declared.Counts.{Counts}
@@ -21,15 +22,25 @@ use Rattle.sheet.specs.declared.refusal.SheetRefusal.{SheetRefusal}
 use Rattle.sheet.specs.declared.refusal.SheetRefusal.the-variants.{Missing}
 use Rattle.sheet.specs.Format.{Entry, entry-bytes, sheet-bytes}
 use Rattle.sheet.specs.Sound.{Fits, Ordered, Sound, Numbered, There, need-count, counts}
-use Rattle.sheet.specs.Answers.{SoundSheet, MissingAt, Answers}
-use Rattle.sheet.specs.Places.{entry-at, placed, need-of, Cursor, HandedOut, Refused}
-use Rattle.sheet.specs.Readers.{start}
+use Rattle.sheet.specs.Answers.{SoundSheet, Answers}
+use Rattle.sheet.specs.Places.{entry-at, Cursor, start, HandedOut, Refused}
 use Rattle.sheet.proofs.Entries.{entry-same}
-use Rattle.sheet.proofs.Turns.{entry-some, Progress, progress-none, progress-more, progress-done}
+use Rattle.sheet.specs.Wholes.{Counted, TheAnswer}
+use Rattle.sheet.proofs.Sheets.{one-list, one-answer, accepted}
+use Rattle.sheet.proofs.Turns.{entry-some, Progress, progress-none, progress-more, progress-done, progress-fault, reads-list}
 
 need-count-push : (es : List Entry) (e : Entry) → need-count (es ++ e ∷ []) ≡ need-count es + length (e .needs)
 need-count-push [] e = omega arith
 need-count-push (d ∷ es) e = omega (arith, need-count-push es e)
+
+-- an answer is the only one; a sheet has one list at most, and a reader hands it out
+pub settled : (bs : List ℕ) (r : Result Counts SheetRefusal) → Answers bs r → TheAnswer bs r
+settled bs r a = record {
+  answers = a;
+  only = λ s b. one-answer bs s r b a;
+  one-list = one-list bs;
+  reads-list = λ ds es. reads-list bs es ds;
+}
 
 -- the first pass: what it has read, and how many entries and needs that is
 pub record Counting (bs : List ℕ) (from : Cursor) (entries needs : ℕ) : Type 0 where
@@ -55,9 +66,13 @@ counting-more bs from to entries needs r c h =
       few = omega (arith, c .few);
     }
 
-pub counting-done : (bs : List ℕ) (from : Cursor) (entries needs : ℕ) (n : Counts) → Counting bs from entries needs → length bs ≤ from .at → n ≡ record { entries = entries; needs = needs } → (es : List Entry) × SoundSheet bs es × (n ≡ counts es)
-counting-done bs from entries needs n c end is =
-    (c .read, progress-done bs (c .read) from (c .progress) end, is ∙ (λ i. record { entries = c .entries-are i; needs = c .needs-are i }))
+pub counting-done : (bs : List ℕ) (from : Cursor) (entries needs : ℕ) → Counting bs from entries needs → (bs ≡ [] → ⊥) → length bs ≤ from .at → Counted bs (record { entries = entries; needs = needs })
+counting-done bs from entries needs c some end = record {
+  entries = c .read;
+  sheet = progress-done bs (c .read) from (c .progress) end;
+  some = some;
+  are = λ i. record { entries = c .entries-are i; needs = c .needs-are i };
+}
 
 -- an entry's record is not nothing
 not-nothing : (e : Entry) (t : List ℕ) → entry-bytes e ++ t ≡ [] → ⊥
@@ -93,23 +108,29 @@ checking-more bs n from to r c h there = record {
 }
 
 -- the first record that needs an entry that is not there
-pub checking-missing : (bs : List ℕ) (n : ℕ) (from to : Cursor) (r : Record) → (es : List Entry) × SoundSheet bs es × (n ≡ length es) → Checking bs n from → HandedOut bs from to r → (There n (entry-at bs r) → ⊥) → Answers bs (Err (Missing (r .number) (r .byte)))
-checking-missing bs n from to r (es, s, long) c h missing =
+pub checking-missing : (bs : List ℕ) (c : Counts) (from to : Cursor) (r : Record) → Counted bs c → Checking bs (c .entries) from → HandedOut bs from to r → (There (c .entries) (entry-at bs r) → ⊥) → TheAnswer bs (Err (Missing (r .number) (r .byte)))
+checking-missing bs c from to r k x h missing =
     let e = entry-at bs r in
-    let p = c .progress in
-    let (after, is) = rest-of 0 (c .read) es e (drop (to .at) bs) (p .sound) (h .sound .fits) (s .sound) (sym (p .whole ∙ ap (λ l. sheet-bytes (c .read) ++ l) (h .whole)) ∙ s .whole) in
-    let all : n ≡ length (c .read ++ e ∷ after) = long ∙ ap length is in
-    record {
-      before = c .read;
+    let p = x .progress in
+    let (after, is) = rest-of 0 (x .read) (k .entries) e (drop (to .at) bs) (p .sound) (h .sound .fits) (k .sheet .sound) (sym (p .whole ∙ ap (λ l. sheet-bytes (x .read) ++ l) (h .whole)) ∙ k .sheet .whole) in
+    let all : c .entries ≡ length (x .read ++ e ∷ after) = ap (λ (n : Counts). n .entries) (k .are) ∙ ap length is in
+    settled bs (Err (Missing (r .number) (r .byte))) (record {
+      before = x .read;
       entry = e;
       after = after;
-      whole = s .whole ∙ ap sheet-bytes is;
-      sound = subst (Numbered Sound 0) is (s .sound);
-      number = ap (λ (x : Record). x .number) (h .places) ∙ p .number;
-      place = ap (λ (x : Record). x .byte) (h .places) ∙ p .place;
-      there = subst (λ m. All (There m) (c .read)) all (c .there);
+      whole = k .sheet .whole ∙ ap sheet-bytes is;
+      sound = subst (Numbered Sound 0) is (k .sheet .sound);
+      number = ap (λ (y : Record). y .number) (h .places) ∙ p .number;
+      place = ap (λ (y : Record). y .byte) (h .places) ∙ p .place;
+      there = subst (λ m. All (There m) (x .read)) all (x .there);
       missing = subst (λ m. There m e → ⊥) all missing;
-    }
+    })
 
-pub checking-done : (bs : List ℕ) (n : ℕ) (from : Cursor) → Checking bs n from → length bs ≤ from .at → (es : List Entry) × SoundSheet bs es × All (There n) es
-checking-done bs n from c end = (c .read, progress-done bs (c .read) from (c .progress) end, c .there)
+-- a sheet that passed both rounds of questions is accepted
+pub checking-done : (bs : List ℕ) (c : Counts) (from : Cursor) → Counted bs c → Checking bs (c .entries) from → length bs ≤ from .at → TheAnswer bs (Ok c)
+checking-done bs c from k x end =
+    settled bs (Ok c) (accepted bs c (k .some) (k .entries, k .sheet, k .are) (x .read, progress-done bs (x .read) from (x .progress) end, x .there))
+
+-- a fault in either pass is the answer
+pub fault-answers : (bs : List ℕ) (es : List Entry) (from to : Cursor) (x : SheetRefusal) → Progress bs es from → Refused bs from to x → TheAnswer bs (Err x)
+fault-answers bs es from to x p h = settled bs (Err x) (progress-fault bs es from to x p h)

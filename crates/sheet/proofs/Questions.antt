@@ -29,14 +29,13 @@ pub record Laid (bs : List ℕ) (i p : ℕ) (r : Record) : Type 0 where
   pub fits : Fits (entry-at bs r)
   pub whole-map : bit-map (entry-at bs r) ≡ map
   pub long : length (entry-bytes (entry-at bs r)) ≡ size map (r .count)
-  pub end : r .needs + 2 * r .count ≡ p + length (entry-bytes (entry-at bs r))
+  pub end : r .end ≡ p + length (entry-bytes (entry-at bs r))
   pub places : r ≡ placed i p (entry-at bs r)
-  pub stands : r .needs + 2 * r .count ≤ length bs → drop p bs ≡ entry-bytes (entry-at bs r) ++ drop (r .needs + 2 * r .count) bs
+  pub stands : r .end ≤ length bs → drop p bs ≡ entry-bytes (entry-at bs r) ++ drop (r .end) bs
 
 pub laid-is : (bs : List ℕ) (i p m k : ℕ) (r : Record) → Bytes bs → p < length bs → i < 4096 → getD bs p 0 ≡ m → m < 64 → m / 4 % 16 ≡ 2 ^ k - 1 → k ≤ 4 → r ≡ laid i p m k → Laid bs i p r
 laid-is bs i p m k r small start within byte low run few is =
     let long = laid-size bs i p m k small low run few in
-    let end : (laid i p m k) .needs + 2 * k ≡ p + size m k = omega arith in
     subst (Laid bs i p) (sym is) (record {
       map = m;
       start = start;
@@ -48,9 +47,9 @@ laid-is bs i p m k r small start within byte low run few is =
       fits = laid-fits bs i p m k small low run few;
       whole-map = laid-map bs i p m k small low run few;
       long = long;
-      end = end ∙ ap (λ n. p + n) (sym long);
+      end = ap (λ n. p + n) (sym long);
       places = laid-places bs i p m k small low run few;
-      stands = λ inside. subst (λ q. drop p bs ≡ entry-bytes (entry-at bs (laid i p m k)) ++ drop q bs) (sym end) (laid-stands bs i p m k small low run few start byte (omega arith));
+      stands = λ inside. laid-stands bs i p m k small low run few start byte inside;
     })
 
 -- the first byte of what is left is the one at the place
@@ -82,7 +81,7 @@ module _ (bs : List ℕ) (i p : ℕ) (r : Record) (l : Laid bs i p r) where
   gapless : Free NeedGap i (drop p bs)
   gapless = (r .count, ap (λ m. m / 4 % 16) head ∙ l .run)
 
-  pub cut-short : length bs < r .needs + 2 * r .count → First CutShort i (drop p bs)
+  pub cut-short : length bs < r .end → First CutShort i (drop p bs)
   cut-short short = record {
     before = (l .within, (clear, (gapless, tt)));
     fails = λ (e, b).
@@ -99,13 +98,13 @@ module _ (bs : List ℕ) (i p : ℕ) (r : Record) (l : Laid bs i p r) where
         );
   }
 
-  module _ (inside : r .needs + 2 * r .count ≤ length bs) where
+  module _ (inside : r .end ≤ length bs) where
     begins : Begins (drop p bs) (entry-at bs r)
-    begins = record { fits = l .fits; tail = drop (r .needs + 2 * r .count) bs; whole = l .stands inside }
+    begins = record { fits = l .fits; tail = drop (r .end) bs; whole = l .stands inside }
 
     -- no other entry stands there
     only : (e : Entry) → Begins (drop p bs) e → e ≡ entry-at bs r
-    only e b = entry-same e (entry-at bs r) (b .tail) (drop (r .needs + 2 * r .count) bs) (b .fits) (l .fits) (sym (b .whole) ∙ l .stands inside) .0
+    only e b = entry-same e (entry-at bs r) (b .tail) (drop (r .end) bs) (b .fits) (l .fits) (sym (b .whole) ∙ l .stands inside) .0
 
     pub amount-range : (InRange ((entry-at bs r) .earning) × InRange ((entry-at bs r) .cost) → ⊥) → First AmountRange i (drop p bs)
     amount-range bad = record {
@@ -119,7 +118,7 @@ module _ (bs : List ℕ) (i p : ℕ) (r : Record) (l : Laid bs i p r) where
       fails = λ (e, b, ordered). bad (subst (λ n. Ordered n ((entry-at bs r) .needs)) (sym number) (subst (λ d. Ordered i (d .needs)) (only e b) ordered));
     }
 
-    pub handed-out : InRange ((entry-at bs r) .earning) → InRange ((entry-at bs r) .cost) → Ordered (r .number) ((entry-at bs r) .needs) → HandedOut bs (record { at = p; number = i }) (record { at = r .needs + 2 * r .count; number = i + 1 }) r
+    pub handed-out : InRange ((entry-at bs r) .earning) → InRange ((entry-at bs r) .cost) → Ordered (r .number) ((entry-at bs r) .needs) → HandedOut bs (record { at = p; number = i }) (record { at = r .end; number = i + 1 }) r
     handed-out earning cost ordered = record {
       whole = l .stands inside;
       sound = record { within = l .within; fits = l .fits; earning = earning; cost = cost; ordered = subst (λ n. Ordered n ((entry-at bs r) .needs)) number ordered };

@@ -234,7 +234,7 @@ one-answer bs (Err (Missing i p)) (Err (Faulty g j q)) x y = absurd (no-fault bs
 one-answer bs (Err (Missing i p)) (Err (Missing j q)) x y = ap Err (same-missing bs i j p q x y)
 
 -- sound records are read in one way
-sound-same : (bs : List ℕ) (ds es : List Entry) → SoundSheet bs ds → SoundSheet bs es → ds ≡ es
+pub sound-same : (bs : List ℕ) (ds es : List Entry) → SoundSheet bs ds → SoundSheet bs es → ds ≡ es
 sound-same bs ds es x y = parsed-same bs ds es [] [] (all-sound bs ds (x .whole) (x .sound)) (all-sound bs es (y .whole) (y .sound)) .0
 
 some-entries : (bs : List ℕ) (es : List Entry) → (bs ≡ [] → ⊥) → bs ≡ sheet-bytes es → 0 < length es

@@ -102,6 +102,7 @@ module _ (bs : List ℕ) (i p m k : ℕ) (small : Bytes bs) (low : m < 64) (run 
       let after-earning : p + 1 + 4 * (m % 2) ≡ p + 1 + length (amount-bytes (amount-at bs (field (m % 2) (p + 1)))) = omega arith in
       let after-cost : p + 1 + 4 * (m % 2) + 4 * (m / 2 % 2) ≡ p + 1 + length (amount-bytes (amount-at bs (field (m % 2) (p + 1)))) + length (amount-bytes (amount-at bs (field (m / 2 % 2) (p + 1 + 4 * (m % 2))))) = omega arith in
       let count = sym (length-needs-at bs (p + 1 + 4 * (m % 2) + 4 * (m / 2 % 2)) k) in
+      let end = ap (λ n. p + n) (sym laid-size) in
       λ j. record {
         number = i;
         byte = p;
@@ -109,6 +110,7 @@ module _ (bs : List ℕ) (i p m k : ℕ) (small : Bytes bs) (low : m < 64) (run 
         cost = place-field bs (m / 2 % 2) (p + 1 + 4 * (m % 2)) _ after-earning j;
         needs = after-cost j;
         count = count j;
+        end = end j;
       }
 
   pub laid-stands : p < length bs → getD bs p 0 ≡ m → p + size m k ≤ length bs → drop p bs ≡ entry-bytes (entry-at bs (laid i p m k)) ++ drop (p + size m k) bs

@@ -15,11 +15,11 @@ use Rattle.sheet.specs.declared.refusal.SheetRefusal.{SheetRefusal}
 use Rattle.sheet.specs.declared.refusal.SheetRefusal.the-variants.{Empty, Faulty, Missing}
 use Rattle.sheet.specs.Format.{Entry, entry-bytes, sheet-bytes}
 use Rattle.sheet.specs.Sound.{Sound, Numbered, need-count}
-use Rattle.sheet.specs.Answers.{First, FaultyAt, SoundSheet, Answers}
-use Rattle.sheet.specs.Places.{entry-at, placed, Cursor, HandedOut, Refused, Handed, InTurn}
-use Rattle.sheet.specs.Readers.{start}
+use Rattle.sheet.specs.Answers.{SoundSheet, SheetOf, Answers}
+use Rattle.sheet.specs.Places.HandsOut.{none, more}
+use Rattle.sheet.specs.Places.{entry-at, placed, Cursor, start, HandedOut, HandsOut, Refused, Handed, InTurn}
 use Rattle.sheet.proofs.Entries.{entry-same, length-entry}
-use Rattle.sheet.proofs.Sheets.{sound-free}
+use Rattle.sheet.proofs.Sheets.{sound-free, sound-same}
 
 -- an entry's record has a byte at least
 pub entry-some : (e : Entry) → 0 < length (entry-bytes e)
@@ -72,6 +72,12 @@ progress-done bs es from p end = record {
   sound = p .sound;
 }
 
+-- what was handed out since is read too
+pub progress-on : (bs : List ℕ) (es ds : List Entry) (from to : Cursor) → Progress bs es from → HandsOut bs from ds to → Progress bs (es ++ ds) to
+progress-on bs es ds from to p none = subst (λ l. Progress bs l to) (sym (append-nil es)) p
+progress-on bs es ds from to p (more {mid = mid} {r = r} {es = rest} h hs) =
+    subst (λ l. Progress bs l to) (append-assoc es (entry-at bs r ∷ []) rest) (progress-on bs (es ++ entry-at bs r ∷ []) rest mid to (progress-more bs es from mid r p h) hs)
+
 -- a record that is refused in its turn is the first with a fault
 pub progress-fault : (bs : List ℕ) (es : List Entry) (from to : Cursor) (x : SheetRefusal) → Progress bs es from → Refused bs from to x → Answers bs (Err x)
 progress-fault bs es from to x p h =
@@ -93,3 +99,8 @@ handed-at bs cs from to r s same is h = subst (Handed bs from to) is (subst (λ 
 -- a turn comes nearer to the sheet's end
 pub turn-falls : (bs : List ℕ) (from to : Cursor) (r : Record) → HandedOut bs from to r → length bs - to .at < length bs - from .at
 turn-falls bs from to r h = omega (arith, h .next, h .inside, entry-some (entry-at bs r))
+
+-- what is handed out from the start to the end is the one list
+pub reads-list : (bs : List ℕ) (es ds : List Entry) (end : Cursor) → SheetOf bs es → HandsOut bs start ds end → length bs ≤ end .at → ds ≡ es
+reads-list bs es ds end x h over =
+    sound-same bs ds es (progress-done bs ds end (progress-on bs [] ds start end (progress-none bs) h) over) (record { whole = x .whole; sound = x .well .sound })

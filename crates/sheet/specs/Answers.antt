@@ -74,7 +74,3 @@ Answers bs (Ok c) = (es : List Entry) × SheetOf bs es × (c ≡ counts es)
 Answers bs (Err Empty) = bs ≡ []
 Answers bs (Err (Faulty f i p)) = FaultyAt bs f i p
 Answers bs (Err (Missing i p)) = MissingAt bs i p
-
--- bs is the sheet of one list at most
-abbrev pub OneList : List ℕ → Type 0
-OneList bs = (ds es : List Entry) → SheetOf bs ds → SheetOf bs es → ds ≡ es

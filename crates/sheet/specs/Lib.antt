@@ -6,3 +6,4 @@ pub mod Answers
 pub mod Places
 pub mod Layout
 pub mod Readers
+pub mod Wholes

@@ -1,9 +1,7 @@
 -- A record told as places in the sheet, and the entry that stands there.
 use mathlib.Core.Path.{_≡_}
-use mathlib.Core.Bool.{cond}
 use mathlib.Core.List.{List, [], _∷_, _++_}
 use Prim.Native.Nat.{ℕ, zero, suc, _+_, _*_, _≤_, _<_}
-use lib.Dec.{ltb}
 use lib.ListN.{length, getD, drop}
 use Rattle.std.specs.Options.{mapped}
 use Rattle.std.specs.declared.option.Option.{Option}
@@ -41,10 +39,6 @@ abbrev pub amount : Option ℕ → ℕ
 amount None = 0
 amount (Some x) = x
 
--- need number j of an entry, if it has so many
-abbrev pub need-of : Entry → ℕ → Option ℕ
-need-of e j = cond (ltb j (length (e .needs))) (Some (getD (e .needs) j 0)) None
-
 -- the place p, where the field is there
 abbrev pub place : Option ℕ → ℕ → Option ℕ
 place o p = mapped (λ _. p) o
@@ -58,12 +52,17 @@ placed i p e = record {
   cost = place (e .cost) (p + 1 + length (amount-bytes (e .earning)));
   needs = p + 1 + length (amount-bytes (e .earning)) + length (amount-bytes (e .cost));
   count = length (e .needs);
+  end = p + length (entry-bytes e);
 }
 
--- the cursor of a reader: the place of the next record's first byte, and that record's number
+-- a reader's cursor: the place of the next record's first byte, and that record's number
 pub record Cursor : Type 0 where
   pub at : ℕ
   pub number : ℕ
+
+-- before the first record
+abbrev pub start : Cursor
+start = record { at = 0; number = 0 }
 
 -- a reader of bs at one cursor handed out the record r, and stands at another
 pub record HandedOut (bs : List ℕ) (from to : Cursor) (r : Record) : Type 0 where
@@ -73,6 +72,11 @@ pub record HandedOut (bs : List ℕ) (from to : Cursor) (r : Record) : Type 0 wh
   pub next : to .at ≡ from .at + length (entry-bytes (entry-at bs r))
   pub inside : to .at ≤ length bs
   pub number : to .number ≡ from .number + 1
+
+-- turn by turn, a reader of bs handed out the records of these entries, and came from one cursor to another
+pub data HandsOut (bs : List ℕ) : Cursor → List Entry → Cursor → Type 0 where
+  none : {from : Cursor} → HandsOut bs from [] from
+  more : {from mid to : Cursor} {r : Record} {es : List Entry} → HandedOut bs from mid r → HandsOut bs mid es to → HandsOut bs from (entry-at bs r ∷ es) to
 
 -- it refused the record at its cursor, and stands where it stood
 pub record Refused (bs : List ℕ) (from to : Cursor) (x : SheetRefusal) : Type 0 where

@@ -9,7 +9,3 @@ sheet-of r = r .sheet .now
 
 abbrev pub cursor : Reader → Cursor
 cursor r = record { at = r .at; number = r .number }
-
--- before the first record
-abbrev pub start : Cursor
-start = record { at = 0; number = 0 }

@@ -9,6 +9,8 @@ pub use reading::Reader;
 pub use records::Record;
 pub use refusal::Fault;
 pub use refusal::SheetRefusal;
+pub use refusal::SheetRefusalDebug;
+pub use refusal::SheetRefusalPartialEq;
 pub use refusal::Told;
 pub use whole::read;
 

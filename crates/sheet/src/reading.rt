@@ -1,10 +1,11 @@
 // A reader: a cursor over a borrowed sheet that hands out its records, one after another, and copies nothing.
 ghost use mathlib.Core.Path.{_≡_};
 ghost use Rattle.std.specs.Options.{mapped};
-ghost use Rattle.sheet.specs.Places.{Handed, InTurn, amount, entry-at, need-of, number-at};
-ghost use Rattle.sheet.specs.Readers.{sheet-of, cursor, start};
+ghost use Rattle.std.specs.shelf.Maps.{nth};
+ghost use Rattle.sheet.specs.Places.{Handed, InTurn, amount, entry-at, number-at, start};
+ghost use Rattle.sheet.specs.Readers.{sheet-of, cursor};
 use super::bytes::amount_at;
-use super::bytes::need_at;
+use super::bytes::nth_need;
 use super::records::Record;
 use super::records::record_at;
 use super::refusal::SheetRefusal;
@@ -41,7 +42,7 @@ impl<'a> Reader<'a> {
         }
         match record_at(self.sheet, self.number, self.at) {
             Ok(found) => {
-                self.at = found.end();
+                self.at = found.end;
                 self.number += 1;
                 Ok(Some(found))
             }
@@ -79,12 +80,8 @@ impl<'a> Reader<'a> {
 
     // Need number `j` of the entry that stands at the places of a record; none past its last need.
     pub fn need(&self, found: &Record, j: u8) -> Option<usize>
-        ensures { λ r. ⌜ r ≡ need-of (entry-at (sheet-of (now (self .entry))) (now (found .entry))) j ⌝ }
+        ensures { λ r. ⌜ r ≡ nth (entry-at (sheet-of (now (self .entry))) (now (found .entry)) .needs) j ⌝ }
     {
-        if j < found.count {
-            Some(usize::from(need_at(self.sheet, found.needs, j)))
-        } else {
-            None
-        }
+        nth_need(self.sheet, found.needs, found.count, j)
     }
 }

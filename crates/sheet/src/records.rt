@@ -1,14 +1,15 @@
 // A record of a sheet, told as places, and the questions that are put to it.
 ghost use mathlib.Core.Path.{_≡_};
 ghost use Prim.Native.Nat.{ℕ, _+_, _-_, _*_, _/_, _%_, _^_, _<_, _≤_};
-ghost use Rattle.std.specs.Options.{Cases};
-ghost use Rattle.std.specs.Options.{mapped};
+ghost use Rattle.std.specs.Options.{Cases as BySome, mapped};
 ghost use Rattle.std.specs.Orderings.{Decides};
 ghost use Rattle.std.specs.Results.{Cases as ByOk};
+ghost use Rattle.std.specs.declared.option.Option.the-variants.{Some};
+ghost use Rattle.std.specs.declared.result.Result.the-variants.{Ok};
 ghost use Rattle.sheet.specs.Answers.{First};
 ghost use lib.ListN.{length, drop};
 ghost use Rattle.sheet.specs.Layout.{field, laid};
-ghost use Rattle.sheet.specs.Places.{number-at, needs-at, HandedOut};
+ghost use Rattle.sheet.specs.Places.{HandedOut, InTurn, needs-at, number-at};
 ghost use Rattle.sheet.specs.Sound.{InRange, Ordered};
 use super::bytes::amount_at;
 use super::bytes::need_at;
@@ -31,11 +32,13 @@ pub struct Record {
     // the place of its first need, and how many there are
     pub needs: usize,
     pub count: u8,
+    // the place after its last byte
+    pub end: usize,
 }
 
 // How many needs a bit map announces, or none where its need bits leave a gap from bit 2 up.
 fn need_count(map: u8) -> Option<u8>
-    ensures { λ r. ⌜ Cases r (((k : ℕ) × (map / 4 % 16 ≡ 2 ^ k - 1)) → ⊥) (λ k. (k ≤ 4) × (map / 4 % 16 ≡ 2 ^ k - 1)) ⌝ }
+    ensures { λ r. ⌜ BySome r (((k : ℕ) × (map / 4 % 16 ≡ 2 ^ k - 1)) → ⊥) (λ k. (k ≤ 4) × (map / 4 % 16 ≡ 2 ^ k - 1)) ⌝ }
 {
     match (map >> 2) & 15 {
         0b0000 => Some(0),
@@ -62,13 +65,15 @@ fn layout(number: usize, byte: usize, map: u8, count: u8) -> Record
     let cost = (map >> 1) & 1;
     let after_map = byte + 1;
     let after_earning = after_map + 4 * usize::from(earning);
+    let after_cost = after_earning + 4 * usize::from(cost);
     Record {
         number,
         byte,
         earning: present(earning, after_map),
         cost: present(cost, after_earning),
-        needs: after_earning + 4 * usize::from(cost),
+        needs: after_cost,
         count,
+        end: after_cost + 2 * usize::from(count),
     }
 }
 
@@ -102,20 +107,10 @@ fn needs_ordered(sheet: &[u8], found: &Record) -> bool
     true
 }
 
-impl Record {
-    // The place after its last byte.
-    pub(crate) fn end(&self) -> usize
-        requires { ⌜ now self .needs + 2 * now self .count < 2 ^ 64 ⌝ }
-        ensures { λ r. ⌜ r ≡ now (self .entry) .needs + 2 * now (self .entry) .count ⌝ }
-    {
-        self.needs + 2 * usize::from(self.count)
-    }
-}
-
 // The record that begins at `at` and has the number `number`, or the first fault that a question finds.
 pub(crate) fn record_at(sheet: &[u8], number: usize, at: usize) -> Result<Record, Fault>
     requires { ⌜ at < length (now sheet) ⌝ }
-    ensures { λ r. ⌜ ByOk r (λ found. HandedOut (now (sheet .entry)) (record { at = at; number = number }) (record { at = found .needs + 2 * found .count; number = number + 1 }) found) (λ fault. First fault number (drop at (now (sheet .entry)))) ⌝ }
+    ensures { λ r. ⌜ ByOk r (λ found. HandedOut (now (sheet .entry)) (record { at = at; number = number }) (record { at = found .end; number = number + 1 }) found × InTurn (now (sheet .entry)) (record { at = at; number = number }) (Ok (Some found))) (λ fault. First fault number (drop at (now (sheet .entry)))) ⌝ }
 {
     if number >= MOST_ENTRIES {
         return Err(Fault::TooMany);
@@ -128,7 +123,7 @@ pub(crate) fn record_at(sheet: &[u8], number: usize, at: usize) -> Result<Record
         return Err(Fault::NeedGap);
     };
     let found = layout(number, at, map, count);
-    if found.end() > sheet.len() {
+    if found.end > sheet.len() {
         return Err(Fault::CutShort);
     }
     if !amount_in_range(sheet, found.earning) || !amount_in_range(sheet, found.cost) {

@@ -1,18 +1,12 @@
 // The answer to a whole sheet: how many entries and needs it has, or the first question that fails.
-ghost use mathlib.Core.Path.{_≡_};
-ghost use mathlib.Core.List.{List};
 ghost use Prim.Native.Nat.{ℕ};
-ghost use lib.ListN.{length};
 ghost use Rattle.std.specs.Orderings.{Decides};
 ghost use Rattle.std.specs.Results.{Cases as ByOk};
-ghost use Rattle.std.specs.declared.result.Result.{Result as Outcome};
-ghost use Rattle.std.specs.declared.result.Result.the-variants.{Err as Refusal};
-ghost use Rattle.std.specs.shelf.Lists.{All};
-ghost use Rattle.sheet.specs.Answers.{Answers, OneList, SoundSheet};
-ghost use Rattle.sheet.specs.Format.{Entry};
+ghost use Rattle.std.specs.declared.result.Result.the-variants.{Err};
 ghost use Rattle.sheet.specs.Places.{entry-at};
 ghost use Rattle.sheet.specs.Readers.{sheet-of};
-ghost use Rattle.sheet.specs.Sound.{Ordered, There, counts};
+ghost use Rattle.sheet.specs.Sound.{Ordered, There};
+ghost use Rattle.sheet.specs.Wholes.{Counted, TheAnswer};
 use super::Counts;
 use super::reading::Reader;
 use super::records::Record;
@@ -20,22 +14,19 @@ use super::refusal::SheetRefusal;
 
 // Reads a whole sheet: the first question that fails is the refusal.
 pub fn read(sheet: &[u8]) -> Result<Counts, SheetRefusal>
-    ensures answers { λ r. ⌜ Answers (now (sheet .entry)) r ⌝ }
-    ensures only { λ r. ⌜ ((s : Outcome Counts SheetRefusal) → Answers (now (sheet .entry)) s → s ≡ r) ⌝ }
-    ensures one_list { λ _. ⌜ OneList (now (sheet .entry)) ⌝ }
+    ensures { λ r. ⌜ TheAnswer (now (sheet .entry)) r ⌝ }
 {
-    if sheet.is_empty() {
-        return Err(SheetRefusal::Empty);
-    }
     let counts = count(sheet)?;
-    find_missing(sheet, counts.entries)?;
-    Ok(counts)
+    find_missing(sheet, counts)
 }
 
 // Puts the questions of each record by itself, and counts the entries and needs.
 fn count(sheet: &[u8]) -> Result<Counts, SheetRefusal>
-    ensures { λ r. ⌜ ByOk r (λ c. (es : List Entry) × SoundSheet (now (sheet .entry)) es × (c ≡ counts es)) (λ x. Answers (now (sheet .entry)) (Refusal x)) ⌝ }
+    ensures { λ r. ⌜ ByOk r (λ c. Counted (now (sheet .entry)) c) (λ x. TheAnswer (now (sheet .entry)) (Err x)) ⌝ }
 {
+    if sheet.is_empty() {
+        return Err(SheetRefusal::Empty);
+    }
     let mut reader = Reader::new(sheet);
     let mut entries = 0;
     let mut needs = 0;
@@ -46,21 +37,21 @@ fn count(sheet: &[u8]) -> Result<Counts, SheetRefusal>
     Ok(Counts { entries, needs })
 }
 
-// Asks of each record in turn whether the entries that it needs are there.
-fn find_missing(sheet: &[u8], entries: usize) -> Result<(), SheetRefusal>
-    requires { ⌜ ((es : List Entry) × SoundSheet (now sheet) es × (entries ≡ length es)) ⌝ }
-    ensures { λ r. ⌜ ByOk r (λ _. (es : List Entry) × SoundSheet (now (sheet .entry)) es × All (There entries) es) (λ x. Answers (now (sheet .entry)) (Refusal x)) ⌝ }
+// Asks of each record in turn whether the entries that it needs are there, and answers the counts if all are.
+fn find_missing(sheet: &[u8], counts: Counts) -> Result<Counts, SheetRefusal>
+    requires { ⌜ Counted (now sheet) counts ⌝ }
+    ensures { λ r. ⌜ TheAnswer (now (sheet .entry)) r ⌝ }
 {
     let mut reader = Reader::new(sheet);
     while let Some(found) = reader.next()? {
-        if !needs_there(&reader, &found, entries) {
+        if !needs_there(&reader, &found, counts.entries) {
             return Err(SheetRefusal::Missing {
                 record: found.number,
                 byte: found.byte,
             });
         }
     }
-    Ok(())
+    Ok(counts)
 }
 
 // Whether all entries that a record needs are among the first `entries`. Its needs ascend, so the last one tells.

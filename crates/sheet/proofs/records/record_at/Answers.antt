@@ -1,6 +1,10 @@
 use mathlib.Core.Path.{refl}
-use native.Mathlib.Omega.{arith}
+use Prim.Native.Nat.{_+_}
 use Rattle.std.proofs.shelf.Tests.{false≢true}
+use Rattle.std.specs.declared.option.Option.the-variants.{Some}
+use Rattle.std.specs.declared.result.Result.the-variants.{Ok}
+use Rattle.sheet.specs.Places.{Cursor}
+use Rattle.sheet.proofs.Turns.{in-turn}
 use Rattle.sheet.proofs.Questions.{Laid, laid-is, high-bits, need-gap, cut-short, amount-range, need-order, handed-out}
 use Rattle.sheet.proofs.records.record_at.Needs as need
 use Rattle.sheet.proofs.records.record_at.Needs.{After-layout-found, then-not-amount-in-range·by·then-not-amount-in-range, then-not-amount-in-range·by·else-not-amount-in-range·then-not-amount-in-range-2}
@@ -17,13 +21,13 @@ returns-then-map-ge64 c = high-bits (c .args .sheet .now) _ (c .args .at) (c .if
 pub returns-in-rest : need.returns-in-rest
 returns-in-rest c = need-gap (c .args .sheet .now) _ (c .args .at) (c .if-number-ge-MOST-ENTRIES .left) (c .if-map-ge64 .left) (c .in-rest .ensures tt)
 
-pub returns-then-end-sheet : need.returns-then-end-sheet
-returns-then-end-sheet c =
-    cut-short _ _ _ _ (found (need.at·returns-then-end-sheet c .After-layout-found)) (omega (arith, c .end .ensures, c .if-end-sheet .taken))
+pub returns-then-found-sheet : need.returns-then-found-sheet
+returns-then-found-sheet c =
+    cut-short _ _ _ _ (found (need.at·returns-then-found-sheet c .After-layout-found)) (c .if-found-sheet .taken)
 
 pub returns-then-not-amount-in-range : need.returns-then-not-amount-in-range
 returns-then-not-amount-in-range c =
-    amount-range _ _ _ _ (found (need.at·returns-then-not-amount-in-range c .After-layout-found)) (omega (arith, c .end .ensures, c .if-end-sheet .left))
+    amount-range _ _ _ _ (found (need.at·returns-then-not-amount-in-range c .After-layout-found)) (c .if-found-sheet .left)
     (λ (earning, cost). elim (c .then-not-amount-in-range .came) [
       | then-not-amount-in-range·by·then-not-amount-in-range w ↦ false≢true (w .if-not-amount-in-range .ensures tt .1 earning)
       | then-not-amount-in-range·by·else-not-amount-in-range·then-not-amount-in-range-2 w ↦ false≢true (w .if-not-amount-in-range-2 .ensures tt .1 cost)
@@ -31,11 +35,14 @@ returns-then-not-amount-in-range c =
 
 pub returns-then-not-needs-ordered : need.returns-then-not-needs-ordered
 returns-then-not-needs-ordered c =
-    need-order _ _ _ _ (found (need.at·returns-then-not-needs-ordered c .After-layout-found)) (omega (arith, c .end .ensures, c .if-end-sheet .left))
+    need-order _ _ _ _ (found (need.at·returns-then-not-needs-ordered c .After-layout-found)) (c .if-found-sheet .left)
     (c .if-not-amount-in-range .ensures tt .0 refl) (c .if-not-amount-in-range-2 .ensures tt .0 refl)
     (λ ordered. false≢true (c .if-not-needs-ordered .ensures tt .1 ordered))
 
 pub returns : need.returns
 returns c =
-    handed-out _ _ _ _ (found (need.at·returns c .After-layout-found)) (omega (arith, c .end .ensures, c .if-end-sheet .left))
-    (c .if-not-amount-in-range .ensures tt .0 refl) (c .if-not-amount-in-range-2 .ensures tt .0 refl) (c .if-not-needs-ordered .ensures tt .0 refl)
+    let bs = c .args .sheet .now in
+    let from : Cursor = record { at = c .args .at; number = c .args .number } in
+    let to : Cursor = record { at = c .layout-found .result .end; number = c .args .number + 1 } in
+    let out = handed-out _ _ _ _ (found (need.at·returns c .After-layout-found)) (c .if-found-sheet .left) (c .if-not-amount-in-range .ensures tt .0 refl) (c .if-not-amount-in-range-2 .ensures tt .0 refl) (c .if-not-needs-ordered .ensures tt .0 refl) in
+    (out, in-turn bs from to (Ok (Some (c .layout-found .result))) out)

@@ -1,0 +1,3 @@
+-- The definitions that the contracts cite.
+pub mod Plans
+pub mod Listings
