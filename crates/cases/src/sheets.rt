@@ -2,6 +2,7 @@
 use sheet::Counts;
 use sheet::CountsDebug;
 use sheet::CountsPartialEq;
+use sheet::Kind;
 use sheet::Reader;
 use sheet::Record;
 use sheet::RecordDebug;
@@ -118,8 +119,7 @@ fn records_as_places() -> Result<(), Fail> {
     let job = Record {
         number: 0,
         byte: 0,
-        earning: Some(1),
-        cost: None,
+        kind: Kind::Earns { earning: 1 },
         needs: 5,
         count: 1,
         end: 7,
@@ -134,8 +134,10 @@ fn records_as_places() -> Result<(), Fail> {
     let both = Record {
         number: 3,
         byte: 19,
-        earning: Some(20),
-        cost: Some(24),
+        kind: Kind::Both {
+            earning: 20,
+            cost: 24,
+        },
         needs: 28,
         count: 0,
         end: 28,

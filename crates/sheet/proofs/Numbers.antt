@@ -1,12 +1,12 @@
 -- Numbers in bytes: what is read is what was written, and no other number has the same bytes.
 use mathlib.Core.Path.{_≡_, refl, sym, ap, _∙_}
-use mathlib.Core.List.{List, [], _∷_, _++_}
+use mathlib.Core.List.{List, _++_}
 use Prim.Native.Nat.{ℕ, zero, suc, _+_, _*_, _/_, _%_, _^_, _≤_, _<_}
 use native.Mathlib.Nat.{pow-suc}
 use native.Mathlib.Numerals.{add-one}
 use native.Mathlib.Omega.{arith}
 use lib.ListN.{length, getD, take, drop}
-use Rattle.std.proofs.shelf.Lists.{length-push, same-from-push, length-append, take-at, drop-at, take-more, getD-drop, length-drop}
+use Rattle.std.proofs.shelf.Lists.{length-push, same-from-push, take-at, drop-at, take-more, getD-drop, length-drop}
 use Rattle.sheet.specs.Format.{bytes}
 use Rattle.sheet.specs.Places.{number-at}
 

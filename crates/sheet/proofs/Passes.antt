@@ -1,18 +1,11 @@
 -- The two passes over a sheet: what each knows between two turns.
 use mathlib.Core.Path.{_≡_, refl, sym, ap, _∙_, subst}
-use mathlib.Core.Bool.{cond}
-use mathlib.Core.Logic.{⊎-elim}
 use mathlib.Core.List.{List, [], _∷_, _++_}
-use Prim.Native.Nat.{ℕ, zero, suc, _+_, _-_, _*_, _≤_, _<_}
-use native.Mathlib.Nat.{add-zero}
-use native.Mathlib.Numerals.{add-one}
+use Prim.Native.Nat.{ℕ, suc, _+_, _*_, _≤_}
 use native.Mathlib.Omega.{arith}
-use lib.Dec.{ltb}
-use lib.ListN.{length, getD, drop}
-use Rattle.std.proofs.shelf.Elements.{all-push, all-getD, all-from-getD}
+use lib.ListN.{length, drop}
+use Rattle.std.proofs.shelf.Elements.{all-push}
 use Rattle.std.proofs.shelf.Lists.{append-assoc, length-push, length-append}
-use Rattle.std.specs.declared.option.Option.{Option}
-use Rattle.std.specs.declared.option.Option.the-variants.{Some, None}
 use Rattle.std.specs.declared.result.Result.{Result}
 use Rattle.std.specs.declared.result.Result.the-variants.{Ok, Err}
 use Rattle.std.specs.shelf.Lists.{All}
@@ -21,7 +14,7 @@ use Rattle.sheet.specs.declared.records.Record.{Record}
 use Rattle.sheet.specs.declared.refusal.SheetRefusal.{SheetRefusal}
 use Rattle.sheet.specs.declared.refusal.SheetRefusal.the-variants.{Missing}
 use Rattle.sheet.specs.Format.{Entry, entry-bytes, sheet-bytes}
-use Rattle.sheet.specs.Sound.{Fits, Ordered, Sound, Numbered, There, need-count, counts}
+use Rattle.sheet.specs.Sound.{Fits, Sound, Numbered, There, need-count}
 use Rattle.sheet.specs.Answers.{SoundSheet, Answers}
 use Rattle.sheet.specs.Places.{entry-at, Cursor, start, HandedOut, Refused}
 use Rattle.sheet.proofs.Entries.{entry-same}
@@ -118,8 +111,7 @@ checking-missing bs c from to r k x h missing =
       before = x .read;
       entry = e;
       after = after;
-      whole = k .sheet .whole ∙ ap sheet-bytes is;
-      sound = subst (Numbered Sound 0) is (k .sheet .sound);
+      sheet = subst (SoundSheet bs) is (k .sheet);
       number = ap (λ (y : Record). y .number) (h .places) ∙ p .number;
       place = ap (λ (y : Record). y .byte) (h .places) ∙ p .place;
       there = subst (λ m. All (There m) (x .read)) all (x .there);

@@ -1,21 +1,21 @@
 -- The questions put to the record that begins at one place, by the places that its bit map lays.
 use mathlib.Core.Path.{_≡_, refl, sym, ap, _∙_, subst}
-use mathlib.Core.List.{List, [], _∷_, _++_}
-use Prim.Native.Nat.{ℕ, zero, suc, _+_, _-_, _*_, _/_, _%_, _^_, _≤_, _<_}
+use mathlib.Core.List.{List, _++_}
+use Prim.Native.Nat.{ℕ, _+_, _-_, _/_, _%_, _^_, _≤_, _<_}
 use native.Mathlib.Nat.{add-zero}
 use native.Mathlib.Omega.{arith}
-use lib.ListN.{length, getD, take, drop}
+use lib.ListN.{length, getD, drop}
 use Rattle.std.proofs.shelf.Lists.{getD-drop, length-drop, length-append}
 use Rattle.sheet.specs.declared.records.Record.{Record}
-use Rattle.sheet.specs.declared.refusal.Fault.the-variants.{TooMany, HighBits, NeedGap, CutShort, AmountRange, NeedOrder}
+use Rattle.sheet.specs.declared.refusal.Fault.the-variants.{HighBits, NeedGap, CutShort, AmountRange, NeedOrder}
 use Rattle.sheet.specs.Format.{Entry, bit-map, entry-bytes}
-use Rattle.sheet.specs.Sound.{Fits, InRange, Ordered, Sound}
+use Rattle.sheet.specs.Sound.{Fits, InRange, Ordered}
 use Rattle.sheet.specs.Answers.{Begins, Free, First}
-use Rattle.sheet.specs.Places.{entry-at, placed, Cursor, HandedOut}
+use Rattle.sheet.specs.Places.{entry-at, placed, HandedOut}
 use Rattle.sheet.specs.Layout.{laid, size}
 use Rattle.sheet.proofs.Entries.{same-kind, length-entry, entry-same}
 use Rattle.sheet.proofs.Sheets.{first-byte}
-use Rattle.sheet.proofs.Standing.{Bytes, laid-fits, laid-map, laid-size, laid-places, laid-stands}
+use Rattle.sheet.proofs.Standing.{Bytes, laid-fits, laid-map, laid-size, laid-places, laid-stands, stands-there}
 
 -- the record r at p, laid by the bit map m with k needs
 pub record Laid (bs : List ℕ) (i p : ℕ) (r : Record) : Type 0 where
@@ -28,7 +28,6 @@ pub record Laid (bs : List ℕ) (i p : ℕ) (r : Record) : Type 0 where
   pub few : r .count ≤ 4
   pub fits : Fits (entry-at bs r)
   pub whole-map : bit-map (entry-at bs r) ≡ map
-  pub long : length (entry-bytes (entry-at bs r)) ≡ size map (r .count)
   pub end : r .end ≡ p + length (entry-bytes (entry-at bs r))
   pub places : r ≡ placed i p (entry-at bs r)
   pub stands : r .end ≤ length bs → drop p bs ≡ entry-bytes (entry-at bs r) ++ drop (r .end) bs
@@ -36,6 +35,7 @@ pub record Laid (bs : List ℕ) (i p : ℕ) (r : Record) : Type 0 where
 pub laid-is : (bs : List ℕ) (i p m k : ℕ) (r : Record) → Bytes bs → p < length bs → i < 4096 → getD bs p 0 ≡ m → m < 64 → m / 4 % 16 ≡ 2 ^ k - 1 → k ≤ 4 → r ≡ laid i p m k → Laid bs i p r
 laid-is bs i p m k r small start within byte low run few is =
     let long = laid-size bs i p m k small low run few in
+    let there = stands-there bs i p m k in
     subst (Laid bs i p) (sym is) (record {
       map = m;
       start = start;
@@ -44,20 +44,16 @@ laid-is bs i p m k r small start within byte low run few is =
       low = low;
       run = run;
       few = few;
-      fits = laid-fits bs i p m k small low run few;
-      whole-map = laid-map bs i p m k small low run few;
-      long = long;
-      end = ap (λ n. p + n) (sym long);
-      places = laid-places bs i p m k small low run few;
-      stands = λ inside. laid-stands bs i p m k small low run few start byte inside;
+      fits = subst Fits there (laid-fits bs i p m k small low run few);
+      whole-map = subst (λ e. bit-map e ≡ m) there (laid-map bs i p m k small low run few);
+      end = subst (λ e. p + size m k ≡ p + length (entry-bytes e)) there (ap (λ n. p + n) (sym long));
+      places = subst (λ e. laid i p m k ≡ placed i p e) there (laid-places bs i p m k small low run few);
+      stands = λ inside. subst (λ e. drop p bs ≡ entry-bytes e ++ drop (p + size m k) bs) there (laid-stands bs i p m k small low run few start byte inside);
     })
 
 -- the first byte of what is left is the one at the place
 pub head-at : (bs : List ℕ) (p : ℕ) → getD (drop p bs) 0 0 ≡ getD bs p 0
 head-at bs p = getD-drop p bs 0 0 ∙ ap (λ q. getD bs q 0) (add-zero p)
-
-pub too-many : (i : ℕ) (bs : List ℕ) → 4096 ≤ i → First TooMany i bs
-too-many i bs late = record { before = tt; fails = λ early. omega arith }
 
 pub high-bits : (bs : List ℕ) (i p : ℕ) → i < 4096 → 64 ≤ getD bs p 0 → First HighBits i (drop p bs)
 high-bits bs i p early high = record { before = (early, tt); fails = λ low. omega (arith, head-at bs p) }

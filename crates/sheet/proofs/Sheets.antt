@@ -2,10 +2,10 @@
 use mathlib.Core.Path.{_≡_, refl, sym, ap, _∙_, subst}
 use mathlib.Core.List.{List, [], _∷_, _++_}
 use mathlib.Core.Logic.{⊎-elim, _⊎_, inl, inr}
-use Prim.Native.Nat.{ℕ, zero, suc, _+_, _-_, _*_, _/_, _%_, _^_, _≤_, _<_}
-use native.Mathlib.Nat.{zero-add, add-zero, suc-add, add-suc}
+use Prim.Native.Nat.{ℕ, suc, _+_, _-_, _/_, _%_, _^_, _≤_, _<_}
+use native.Mathlib.Nat.{zero-add, add-zero}
 use native.Mathlib.Omega.{arith}
-use lib.ListN.{length, getD, take, drop}
+use lib.ListN.{length, getD}
 use lib.Pow.{pow-pos, pow-mono}
 use Rattle.std.proofs.shelf.Elements.{all-getD}
 use Rattle.std.proofs.shelf.Lists.{append-assoc, append-nil, length-append, getD-take, length-take}
@@ -18,8 +18,8 @@ use Rattle.sheet.specs.declared.refusal.Fault.{Fault}
 use Rattle.sheet.specs.declared.refusal.Fault.the-variants.{TooMany, HighBits, NeedGap, CutShort, AmountRange, NeedOrder}
 use Rattle.sheet.specs.declared.refusal.SheetRefusal.{SheetRefusal}
 use Rattle.sheet.specs.declared.refusal.SheetRefusal.the-variants.{Empty, Faulty, Missing}
-use Rattle.sheet.specs.Format.{Entry, bit-map, flag, entry-bytes, sheet-bytes}
-use Rattle.sheet.specs.Sound.{Fits, Sound, Numbered, There, WellFormed, counts}
+use Rattle.sheet.specs.Format.{Entry, bit-map, entry-bytes, sheet-bytes}
+use Rattle.sheet.specs.Sound.{Fits, Sound, Numbered, There, counts}
 use Rattle.sheet.specs.Refusals.{question, questions, asked-before}
 use Rattle.sheet.specs.Answers.{Begins, Free, First, FaultyAt, MissingAt, SoundSheet, SheetOf, Answers}
 use Rattle.sheet.proofs.Entries.{flag-small, entry-same}
@@ -152,7 +152,7 @@ well : (bs : List ℕ) (es : List Entry) → SheetOf bs es → Parsed bs es []
 well bs es x = all-sound bs es (x .whole) (x .well .sound)
 
 missing : (bs : List ℕ) (i p : ℕ) (x : MissingAt bs i p) → Parsed bs (x .before ++ x .entry ∷ x .after) []
-missing bs i p x = all-sound bs (x .before ++ x .entry ∷ x .after) (x .whole) (x .sound)
+missing bs i p x = all-sound bs (x .before ++ x .entry ∷ x .after) (x .sheet .whole) (x .sheet .sound)
 
 -- a sheet stands for at most one well-formed list
 pub one-list : (bs : List ℕ) (ds es : List Entry) → SheetOf bs ds → SheetOf bs es → ds ≡ es

@@ -1,19 +1,17 @@
 -- The entry that stands at the places of a record: its bytes are the sheet's, and its bit map is the one that laid the places.
-use mathlib.Core.Path.{_≡_, refl, sym, ap, _∙_, subst}
-use mathlib.Core.List.{List, [], _∷_, _++_}
+use mathlib.Core.Path.{_≡_, refl, sym, ap, _∙_}
+use mathlib.Core.List.{List, _∷_, _++_}
 use Prim.Native.Nat.{ℕ, zero, suc, _+_, _-_, _*_, _/_, _%_, _^_, _≤_, _<_}
-use native.Mathlib.Nat.{add-zero}
 use native.Mathlib.Omega.{arith}
-use lib.ListN.{length, getD, take, drop}
+use lib.ListN.{length, getD, drop}
 use Rattle.std.proofs.shelf.Lists.{append-assoc, take-append-drop, drop-drop, drop-more}
 use Rattle.std.specs.Options.{mapped}
 use Rattle.std.specs.declared.option.Option.{Option}
 use Rattle.std.specs.declared.option.Option.the-variants.{Some, None}
 use Rattle.std.specs.shelf.Lists.{All}
-use Rattle.sheet.specs.declared.records.Record.{Record}
 use Rattle.sheet.specs.Format.{Entry, bytes, amount-bytes, need-bytes, flag, bit-map, entry-bytes}
 use Rattle.sheet.specs.Sound.{Under, Fits}
-use Rattle.sheet.specs.Places.{number-at, needs-at, entry-at, place, placed}
+use Rattle.sheet.specs.Places.{number-at, needs-at, kind-of, earning-place, cost-place, entry-at, place, placed}
 use Rattle.sheet.specs.Layout.{field, laid, size}
 use Rattle.sheet.proofs.Numbers.{bytes-at, number-below}
 use Rattle.sheet.proofs.Entries.{length-amount, length-entry, regroup}
@@ -25,7 +23,7 @@ abbrev pub Bytes : List ℕ → Type 0
 Bytes bs = (k : ℕ) → getD bs k 0 < 256
 
 -- the amount at a place, where there is one
-abbrev amount-at : List ℕ → Option ℕ → Option ℕ
+abbrev pub amount-at : List ℕ → Option ℕ → Option ℕ
 amount-at bs o = mapped (λ p. number-at bs p 4) o
 
 flag-field : (bs : List ℕ) (b p : ℕ) → b ≤ 1 → flag (amount-at bs (field b p)) ≡ b
@@ -66,9 +64,36 @@ unfolding needs-at
 needs-below bs p zero small = tt
 needs-below bs p (suc k) small = (number-below bs p 2 small, needs-below bs (p + 2) k small)
 
+-- the entry in the fields that the bit map m announces, of a record that begins at p and has k needs
+abbrev pub stood : List ℕ → ℕ → ℕ → ℕ → Entry
+stood bs p m k = record {
+  earning = amount-at bs (field (m % 2) (p + 1));
+  cost = amount-at bs (field (m / 2 % 2) (p + 1 + 4 * (m % 2)));
+  needs = needs-at bs (p + 1 + 4 * (m % 2) + 4 * (m / 2 % 2)) k;
+}
+
+earning-of-kind : (o q : Option ℕ) → earning-place (kind-of o q) ≡ o
+earning-of-kind None None = refl
+earning-of-kind None (Some q) = refl
+earning-of-kind (Some p) None = refl
+earning-of-kind (Some p) (Some q) = refl
+
+cost-of-kind : (o q : Option ℕ) → cost-place (kind-of o q) ≡ q
+cost-of-kind None None = refl
+cost-of-kind None (Some q) = refl
+cost-of-kind (Some p) None = refl
+cost-of-kind (Some p) (Some q) = refl
+
+pub stands-there : (bs : List ℕ) (i p m k : ℕ) → stood bs p m k ≡ entry-at bs (laid i p m k)
+stands-there bs i p m k =
+    let from = p + 1 in
+    let earning = sym (earning-of-kind (field (m % 2) from) (field (m / 2 % 2) (from + 4 * (m % 2)))) in
+    let cost = sym (cost-of-kind (field (m % 2) from) (field (m / 2 % 2) (from + 4 * (m % 2)))) in
+    λ j. record { earning = amount-at bs (earning j); cost = amount-at bs (cost j); needs = needs-at bs (from + 4 * (m % 2) + 4 * (m / 2 % 2)) k }
+
 -- the places that the bit map m gives record number i, which begins at p and has k needs
 module _ (bs : List ℕ) (i p m k : ℕ) (small : Bytes bs) (low : m < 64) (run : m / 4 % 16 ≡ 2 ^ k - 1) (few : k ≤ 4) where
-  pub laid-fits : Fits (entry-at bs (laid i p m k))
+  pub laid-fits : Fits (stood bs p m k)
   laid-fits = record {
     earning = under-field bs (m % 2) (p + 1) small;
     cost = under-field bs (m / 2 % 2) (p + 1 + 4 * (m % 2)) small;
@@ -76,24 +101,24 @@ module _ (bs : List ℕ) (i p m k : ℕ) (small : Bytes bs) (low : m < 64) (run 
     few = omega (arith, length-needs-at bs (p + 1 + 4 * (m % 2) + 4 * (m / 2 % 2)) k);
   }
 
-  pub laid-map : bit-map (entry-at bs (laid i p m k)) ≡ m
+  pub laid-map : bit-map (stood bs p m k) ≡ m
   laid-map =
       let long = length-needs-at bs (p + 1 + 4 * (m % 2) + 4 * (m / 2 % 2)) k in
       let power = ap (λ n. 2 ^ n) long in
       let parts = map-parts m low in
       omega (arith, flag-field bs (m % 2) (p + 1) (omega arith), flag-field bs (m / 2 % 2) (p + 1 + 4 * (m % 2)) (omega arith))
 
-  pub laid-size : length (entry-bytes (entry-at bs (laid i p m k))) ≡ size m k
+  pub laid-size : length (entry-bytes (stood bs p m k)) ≡ size m k
   laid-size =
       omega (
         arith,
-        length-entry (entry-at bs (laid i p m k)),
+        length-entry (stood bs p m k),
         flag-field bs (m % 2) (p + 1) (omega arith),
         flag-field bs (m / 2 % 2) (p + 1 + 4 * (m % 2)) (omega arith),
         length-needs-at bs (p + 1 + 4 * (m % 2) + 4 * (m / 2 % 2)) k,
       )
 
-  pub laid-places : laid i p m k ≡ placed i p (entry-at bs (laid i p m k))
+  pub laid-places : laid i p m k ≡ placed i p (stood bs p m k)
   laid-places =
       let earning = length-amount (amount-at bs (field (m % 2) (p + 1))) in
       let cost = length-amount (amount-at bs (field (m / 2 % 2) (p + 1 + 4 * (m % 2)))) in
@@ -106,14 +131,13 @@ module _ (bs : List ℕ) (i p m k : ℕ) (small : Bytes bs) (low : m < 64) (run 
       λ j. record {
         number = i;
         byte = p;
-        earning = place-field bs (m % 2) (p + 1) (p + 1) refl j;
-        cost = place-field bs (m / 2 % 2) (p + 1 + 4 * (m % 2)) _ after-earning j;
+        kind = kind-of (place-field bs (m % 2) (p + 1) (p + 1) refl j) (place-field bs (m / 2 % 2) (p + 1 + 4 * (m % 2)) _ after-earning j);
         needs = after-cost j;
         count = count j;
         end = end j;
       }
 
-  pub laid-stands : p < length bs → getD bs p 0 ≡ m → p + size m k ≤ length bs → drop p bs ≡ entry-bytes (entry-at bs (laid i p m k)) ++ drop (p + size m k) bs
+  pub laid-stands : p < length bs → getD bs p 0 ≡ m → p + size m k ≤ length bs → drop p bs ≡ entry-bytes (stood bs p m k) ++ drop (p + size m k) bs
   unfolding entry-bytes
   laid-stands start first inside =
       let from = p + 1 + 4 * (m % 2) in
@@ -123,4 +147,4 @@ module _ (bs : List ℕ) (i p m k : ℕ) (small : Bytes bs) (low : m < 64) (run 
       let needs = needs-stand bs (from + 4 * (m / 2 % 2)) k small (omega arith) ∙ ap (λ q. need-bytes (needs-at bs (from + 4 * (m / 2 % 2)) k) ++ drop q bs) end in
       let fields = earning ∙ ap (λ l. amount-bytes (amount-at bs (field (m % 2) (p + 1))) ++ l) (cost ∙ ap (λ l. amount-bytes (amount-at bs (field (m / 2 % 2) from)) ++ l) needs) in
       let head = sym (laid-map ∙ sym first) in
-      drop-more bs p 0 start ∙ (λ j. head j ∷ fields j) ∙ ap (λ l. bit-map (entry-at bs (laid i p m k)) ∷ l) (sym (regroup (amount-bytes (amount-at bs (field (m % 2) (p + 1)))) (amount-bytes (amount-at bs (field (m / 2 % 2) from))) (need-bytes (needs-at bs (from + 4 * (m / 2 % 2)) k)) (drop (p + size m k) bs)))
+      drop-more bs p 0 start ∙ (λ j. head j ∷ fields j) ∙ ap (λ l. bit-map (stood bs p m k) ∷ l) (sym (regroup (amount-bytes (amount-at bs (field (m % 2) (p + 1)))) (amount-bytes (amount-at bs (field (m / 2 % 2) from))) (need-bytes (needs-at bs (from + 4 * (m / 2 % 2)) k)) (drop (p + size m k) bs)))

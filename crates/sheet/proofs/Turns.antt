@@ -1,10 +1,10 @@
 -- What a reader hands out, turn by turn, and what it has read so far.
 use mathlib.Core.Path.{_≡_, refl, sym, ap, _∙_, subst}
 use mathlib.Core.List.{List, [], _∷_, _++_}
-use Prim.Native.Nat.{ℕ, zero, suc, _+_, _-_, _≤_, _<_}
+use Prim.Native.Nat.{ℕ, suc, _+_, _-_, _≤_, _<_}
 use native.Mathlib.Nat.{add-zero}
 use native.Mathlib.Omega.{arith}
-use lib.ListN.{length, getD, drop}
+use lib.ListN.{length, drop}
 use Rattle.std.proofs.shelf.Lists.{append-assoc, append-nil, length-append, length-drop, length-push, drop-all, joined-more}
 use Rattle.std.specs.declared.option.Option.{Option}
 use Rattle.std.specs.declared.option.Option.the-variants.{Some, None}
@@ -12,9 +12,8 @@ use Rattle.std.specs.declared.result.Result.{Result}
 use Rattle.std.specs.declared.result.Result.the-variants.{Ok, Err}
 use Rattle.sheet.specs.declared.records.Record.{Record}
 use Rattle.sheet.specs.declared.refusal.SheetRefusal.{SheetRefusal}
-use Rattle.sheet.specs.declared.refusal.SheetRefusal.the-variants.{Empty, Faulty, Missing}
 use Rattle.sheet.specs.Format.{Entry, entry-bytes, sheet-bytes}
-use Rattle.sheet.specs.Sound.{Sound, Numbered, need-count}
+use Rattle.sheet.specs.Sound.{Sound, Numbered}
 use Rattle.sheet.specs.Answers.{SoundSheet, SheetOf, Answers}
 use Rattle.sheet.specs.Places.HandsOut.{none, more}
 use Rattle.sheet.specs.Places.{entry-at, placed, Cursor, start, HandedOut, HandsOut, Refused, Handed, InTurn}

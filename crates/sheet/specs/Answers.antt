@@ -46,22 +46,21 @@ pub record FaultyAt (bs : List ℕ) (f : Fault) (i p : ℕ) : Type 0 where
   pub place : p ≡ length (sheet-bytes before)
   pub first : First f i rest
 
+-- bs is the records of es, each sound by itself
+pub record SoundSheet (bs : List ℕ) (es : List Entry) : Type 0 where
+  pub whole : bs ≡ sheet-bytes es
+  pub sound : Numbered Sound 0 es
+
 -- all records are sound, and number i, which begins at byte p, is the first that needs an entry that is not there
 pub record MissingAt (bs : List ℕ) (i p : ℕ) : Type 0 where
   pub before : List Entry
   pub entry : Entry
   pub after : List Entry
-  pub whole : bs ≡ sheet-bytes (before ++ entry ∷ after)
-  pub sound : Numbered Sound 0 (before ++ entry ∷ after)
+  pub sheet : SoundSheet bs (before ++ entry ∷ after)
   pub number : i ≡ length before
   pub place : p ≡ length (sheet-bytes before)
   pub there : All (There (length (before ++ entry ∷ after))) before
   pub missing : There (length (before ++ entry ∷ after)) entry → ⊥
-
--- bs is the records of es, each sound by itself
-pub record SoundSheet (bs : List ℕ) (es : List Entry) : Type 0 where
-  pub whole : bs ≡ sheet-bytes es
-  pub sound : Numbered Sound 0 es
 
 -- bs is the sheet of the well-formed list es
 pub record SheetOf (bs : List ℕ) (es : List Entry) : Type 0 where

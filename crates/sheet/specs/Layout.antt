@@ -3,6 +3,7 @@ use Prim.Native.Nat.{ℕ, zero, suc, _+_, _*_, _/_, _%_}
 use Rattle.std.specs.declared.option.Option.{Option}
 use Rattle.std.specs.declared.option.Option.the-variants.{Some, None}
 use Rattle.sheet.specs.declared.records.Record.{Record}
+use Rattle.sheet.specs.Places.{kind-of}
 
 -- the place p, where the bit stands
 abbrev pub field : ℕ → ℕ → Option ℕ
@@ -18,8 +19,7 @@ abbrev pub laid : ℕ → ℕ → ℕ → ℕ → Record
 laid i p m k = record {
   number = i;
   byte = p;
-  earning = field (m % 2) (p + 1);
-  cost = field (m / 2 % 2) (p + 1 + 4 * (m % 2));
+  kind = kind-of (field (m % 2) (p + 1)) (field (m / 2 % 2) (p + 1 + 4 * (m % 2)));
   needs = p + 1 + 4 * (m % 2) + 4 * (m / 2 % 2);
   count = k;
   end = p + size m k;

@@ -8,6 +8,8 @@ use Rattle.std.specs.declared.option.Option.{Option}
 use Rattle.std.specs.declared.option.Option.the-variants.{Some, None}
 use Rattle.std.specs.declared.result.Result.{Result}
 use Rattle.std.specs.declared.result.Result.the-variants.{Ok, Err}
+use Rattle.sheet.specs.declared.records.Kind.{Kind}
+use Rattle.sheet.specs.declared.records.Kind.the-variants.{Bare, Earns, Costs, Both}
 use Rattle.sheet.specs.declared.records.Record.{Record}
 use Rattle.sheet.specs.declared.refusal.Fault.{Fault}
 use Rattle.sheet.specs.declared.refusal.SheetRefusal.{SheetRefusal}
@@ -26,11 +28,30 @@ unfoldable pub needs-at : List ℕ → ℕ → ℕ → List ℕ
 needs-at bs p zero = []
 needs-at bs p (suc k) = number-at bs p 2 ∷ needs-at bs (p + 2) k
 
+-- the kind of a record whose earning and cost have these places
+abbrev pub kind-of : Option ℕ → Option ℕ → Kind
+kind-of None None = Bare
+kind-of (Some p) None = Earns p
+kind-of None (Some q) = Costs q
+kind-of (Some p) (Some q) = Both p q
+
+abbrev pub earning-place : Kind → Option ℕ
+earning-place Bare = None
+earning-place (Earns p) = Some p
+earning-place (Costs q) = None
+earning-place (Both p q) = Some p
+
+abbrev pub cost-place : Kind → Option ℕ
+cost-place Bare = None
+cost-place (Earns p) = None
+cost-place (Costs q) = Some q
+cost-place (Both p q) = Some q
+
 -- the entry that stands at the places of a record
 abbrev pub entry-at : List ℕ → Record → Entry
 entry-at bs r = record {
-  earning = mapped (λ p. number-at bs p 4) (r .earning);
-  cost = mapped (λ p. number-at bs p 4) (r .cost);
+  earning = mapped (λ p. number-at bs p 4) (earning-place (r .kind));
+  cost = mapped (λ p. number-at bs p 4) (cost-place (r .kind));
   needs = needs-at bs (r .needs) (r .count);
 }
 
@@ -48,8 +69,7 @@ abbrev pub placed : ℕ → ℕ → Entry → Record
 placed i p e = record {
   number = i;
   byte = p;
-  earning = place (e .earning) (p + 1);
-  cost = place (e .cost) (p + 1 + length (amount-bytes (e .earning)));
+  kind = kind-of (place (e .earning) (p + 1)) (place (e .cost) (p + 1 + length (amount-bytes (e .earning))));
   needs = p + 1 + length (amount-bytes (e .earning)) + length (amount-bytes (e .cost));
   count = length (e .needs);
   end = p + length (entry-bytes e);

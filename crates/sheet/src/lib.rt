@@ -6,6 +6,9 @@ mod refusal;
 mod whole;
 
 pub use reading::Reader;
+pub use records::Kind;
+pub use records::KindDebug;
+pub use records::KindPartialEq;
 pub use records::Record;
 pub use records::RecordDebug;
 pub use records::RecordPartialEq;

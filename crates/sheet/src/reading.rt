@@ -68,14 +68,14 @@ impl<'a> Reader<'a> {
     pub fn earning(&self, found: &Record) -> u32
         ensures { λ r. ⌜ r ≡ amount (entry-at (sheet-of (now (self .entry))) (now (found .entry)) .earning) ⌝ }
     {
-        self.amount(found.earning)
+        self.amount(found.kind.earning())
     }
 
     // What the entry costs that stands at the places of a record; 0 where it has no cost.
     pub fn cost(&self, found: &Record) -> u32
         ensures { λ r. ⌜ r ≡ amount (entry-at (sheet-of (now (self .entry))) (now (found .entry)) .cost) ⌝ }
     {
-        self.amount(found.cost)
+        self.amount(found.kind.cost())
     }
 
     // Need number `j` of the entry that stands at the places of a record; none past its last need.

@@ -9,7 +9,7 @@ ghost use Rattle.std.specs.declared.result.Result.the-variants.{Ok};
 ghost use Rattle.sheet.specs.Answers.{First};
 ghost use lib.ListN.{length, drop};
 ghost use Rattle.sheet.specs.Layout.{field, laid};
-ghost use Rattle.sheet.specs.Places.{HandedOut, InTurn, needs-at, number-at};
+ghost use Rattle.sheet.specs.Places.{HandedOut, InTurn, cost-place, earning-place, kind-of, needs-at, number-at};
 ghost use Rattle.sheet.specs.Sound.{InRange, Ordered};
 use super::bytes::amount_at;
 use super::bytes::need_at;
@@ -20,15 +20,56 @@ const MOST_ENTRIES: usize = 4_096;
 
 const MOST_AMOUNT: u32 = 1_000_000;
 
-// A record told as places in its sheet. Its kind is which fields it has: an amount that it lacks has no place.
+// Which amounts a record has, and where in the sheet each stands.
+#[derive(Clone, Copy, PartialEq, Eq, Debug)]
+pub enum Kind {
+    Bare,
+    Earns { earning: usize },
+    Costs { cost: usize },
+    Both { earning: usize, cost: usize },
+}
+
+impl Kind {
+    fn of(earning: Option<usize>, cost: Option<usize>) -> Kind
+        ensures { λ r. ⌜ r ≡ kind-of earning cost ⌝ }
+    {
+        match (earning, cost) {
+            (None, None) => Kind::Bare,
+            (Some(earning), None) => Kind::Earns { earning },
+            (None, Some(cost)) => Kind::Costs { cost },
+            (Some(earning), Some(cost)) => Kind::Both { earning, cost },
+        }
+    }
+
+    // The place of the earning, where there is one.
+    pub(crate) fn earning(self) -> Option<usize>
+        ensures { λ r. ⌜ r ≡ earning-place self ⌝ }
+    {
+        match self {
+            Kind::Earns { earning } | Kind::Both { earning, .. } => Some(earning),
+            Kind::Bare | Kind::Costs { .. } => None,
+        }
+    }
+
+    // The place of the cost, where there is one.
+    pub(crate) fn cost(self) -> Option<usize>
+        ensures { λ r. ⌜ r ≡ cost-place self ⌝ }
+    {
+        match self {
+            Kind::Costs { cost } | Kind::Both { cost, .. } => Some(cost),
+            Kind::Bare | Kind::Earns { .. } => None,
+        }
+    }
+}
+
+// A record told as its kind and places in its sheet.
 #[derive(Clone, Copy, PartialEq, Eq, Debug)]
 pub struct Record {
     // the number of its entry
     pub number: usize,
     // the place of its bit map
     pub byte: usize,
-    pub earning: Option<usize>,
-    pub cost: Option<usize>,
+    pub kind: Kind,
     // the place of its first need, and how many there are
     pub needs: usize,
     pub count: u8,
@@ -69,8 +110,7 @@ fn layout(number: usize, byte: usize, map: u8, count: u8) -> Record
     Record {
         number,
         byte,
-        earning: present(earning, after_map),
-        cost: present(cost, after_earning),
+        kind: Kind::of(present(earning, after_map), present(cost, after_earning)),
         needs: after_cost,
         count,
         end: after_cost + 2 * usize::from(count),
@@ -88,6 +128,12 @@ fn amount_in_range(sheet: &[u8], place: Option<usize>) -> bool
             1 <= amount && amount <= MOST_AMOUNT
         }
     }
+}
+
+fn amounts_in_range(sheet: &[u8], kind: Kind) -> bool
+    ensures { λ r. ⌜ Decides r (InRange (mapped (λ p. number-at (now (sheet .entry)) p 4) (earning-place kind)) × InRange (mapped (λ p. number-at (now (sheet .entry)) p 4) (cost-place kind))) ⌝ }
+{
+    amount_in_range(sheet, kind.earning()) && amount_in_range(sheet, kind.cost())
 }
 
 // Whether the needs of a record ascend, and none is its own number.
@@ -126,7 +172,7 @@ pub(crate) fn record_at(sheet: &[u8], number: usize, at: usize) -> Result<Record
     if found.end > sheet.len() {
         return Err(Fault::CutShort);
     }
-    if !amount_in_range(sheet, found.earning) || !amount_in_range(sheet, found.cost) {
+    if !amounts_in_range(sheet, found.kind) {
         return Err(Fault::AmountRange);
     }
     if !needs_ordered(sheet, &found) {

@@ -5,7 +5,7 @@ use native.Mathlib.Omega.{arith}
 use lib.ListN.{length, getD}
 use Rattle.std.proofs.shelf.Tests.{false≢true}
 use Rattle.sheet.specs.Places.{needs-at}
-use Rattle.sheet.proofs.Needs.{OrderedTo, length-needs-at, getD-needs-at, ordered-none, ordered-more, ordered-all, not-ascending, own-number}
+use Rattle.sheet.proofs.Needs.{length-needs-at, getD-needs-at, ordered-none, ordered-more, ordered-all, not-ascending, own-number}
 use Rattle.sheet.proofs.records.needs_ordered.Needs as need
 use Rattle.sheet.proofs.records.needs_ordered.Needs.{After-from-need, then-need-least·by·then-need-least, then-need-least·by·else-need-least·then-need-found}
 

@@ -7,7 +7,7 @@ use Rattle.sheet.specs.Places.{Cursor}
 use Rattle.sheet.proofs.Turns.{in-turn}
 use Rattle.sheet.proofs.Questions.{Laid, laid-is, high-bits, need-gap, cut-short, amount-range, need-order, handed-out}
 use Rattle.sheet.proofs.records.record_at.Needs as need
-use Rattle.sheet.proofs.records.record_at.Needs.{After-layout-found, then-not-amount-in-range·by·then-not-amount-in-range, then-not-amount-in-range·by·else-not-amount-in-range·then-not-amount-in-range-2}
+use Rattle.sheet.proofs.records.record_at.Needs.{After-layout-found}
 
 -- what `layout` laid is the record at the place
 found : (c : After-layout-found) → Laid (c .args .sheet .now) (c .args .number) (c .args .at) (c .layout-found .result)
@@ -25,18 +25,15 @@ pub returns-then-found-sheet : need.returns-then-found-sheet
 returns-then-found-sheet c =
     cut-short _ _ _ _ (found (need.at·returns-then-found-sheet c .After-layout-found)) (c .if-found-sheet .taken)
 
-pub returns-then-not-amount-in-range : need.returns-then-not-amount-in-range
-returns-then-not-amount-in-range c =
-    amount-range _ _ _ _ (found (need.at·returns-then-not-amount-in-range c .After-layout-found)) (c .if-found-sheet .left)
-    (λ (earning, cost). elim (c .then-not-amount-in-range .came) [
-      | then-not-amount-in-range·by·then-not-amount-in-range w ↦ false≢true (w .if-not-amount-in-range .ensures tt .1 earning)
-      | then-not-amount-in-range·by·else-not-amount-in-range·then-not-amount-in-range-2 w ↦ false≢true (w .if-not-amount-in-range-2 .ensures tt .1 cost)
-    ])
+pub returns-then-not-amounts-in-range : need.returns-then-not-amounts-in-range
+returns-then-not-amounts-in-range c =
+    amount-range _ _ _ _ (found (need.at·returns-then-not-amounts-in-range c .After-layout-found)) (c .if-found-sheet .left)
+    (λ both. false≢true (c .if-not-amounts-in-range .ensures tt .1 both))
 
 pub returns-then-not-needs-ordered : need.returns-then-not-needs-ordered
 returns-then-not-needs-ordered c =
-    need-order _ _ _ _ (found (need.at·returns-then-not-needs-ordered c .After-layout-found)) (c .if-found-sheet .left)
-    (c .if-not-amount-in-range .ensures tt .0 refl) (c .if-not-amount-in-range-2 .ensures tt .0 refl)
+    let amounts = c .if-not-amounts-in-range .ensures tt .0 refl in
+    need-order _ _ _ _ (found (need.at·returns-then-not-needs-ordered c .After-layout-found)) (c .if-found-sheet .left) (amounts .0) (amounts .1)
     (λ ordered. false≢true (c .if-not-needs-ordered .ensures tt .1 ordered))
 
 pub returns : need.returns
@@ -44,5 +41,6 @@ returns c =
     let bs = c .args .sheet .now in
     let from : Cursor = record { at = c .args .at; number = c .args .number } in
     let to : Cursor = record { at = c .layout-found .result .end; number = c .args .number + 1 } in
-    let out = handed-out _ _ _ _ (found (need.at·returns c .After-layout-found)) (c .if-found-sheet .left) (c .if-not-amount-in-range .ensures tt .0 refl) (c .if-not-amount-in-range-2 .ensures tt .0 refl) (c .if-not-needs-ordered .ensures tt .0 refl) in
+    let amounts = c .if-not-amounts-in-range .ensures tt .0 refl in
+    let out = handed-out _ _ _ _ (found (need.at·returns c .After-layout-found)) (c .if-found-sheet .left) (amounts .0) (amounts .1) (c .if-not-needs-ordered .ensures tt .0 refl) in
     (out, in-turn bs from to (Ok (Some (c .layout-found .result))) out)
