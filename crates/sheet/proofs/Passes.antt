@@ -14,7 +14,7 @@ use Rattle.sheet.specs.declared.records.Record.{Record}
 use Rattle.sheet.specs.declared.refusal.SheetRefusal.{SheetRefusal}
 use Rattle.sheet.specs.declared.refusal.SheetRefusal.the-variants.{Missing}
 use Rattle.sheet.specs.Format.{Entry, entry-bytes, sheet-bytes}
-use Rattle.sheet.specs.Sound.{Fits, Sound, Numbered, There, need-count}
+use Rattle.sheet.specs.Sound.{Fits, Sound, Numbered, There, need-count, counts}
 use Rattle.sheet.specs.Answers.{SoundSheet, Answers}
 use Rattle.sheet.specs.Places.{entry-at, Cursor, start, HandedOut, Refused}
 use Rattle.sheet.proofs.Entries.{entry-same}
@@ -31,6 +31,7 @@ pub settled : (bs : List ℕ) (r : Result Counts SheetRefusal) → Answers bs r 
 settled bs r a = record {
   answers = a;
   only = λ s b. one-answer bs s r b a;
+  accepts = λ es x. one-answer bs r (Ok (counts es)) a (es, x, refl);
   one-list = one-list bs;
   reads-list = λ ds es. reads-list bs es ds;
 }
