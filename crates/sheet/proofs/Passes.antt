@@ -5,7 +5,7 @@ use Prim.Native.Nat.{ℕ, suc, _+_, _*_, _≤_}
 use native.Mathlib.Omega.{arith}
 use lib.ListN.{length, drop}
 use Rattle.std.proofs.shelf.Elements.{all-push}
-use Rattle.std.proofs.shelf.Lists.{append-assoc, length-push, length-append}
+use Rattle.std.proofs.shelf.Lists.{append-assoc, length-push}
 use Rattle.std.specs.declared.result.Result.{Result}
 use Rattle.std.specs.declared.result.Result.the-variants.{Ok, Err}
 use Rattle.std.specs.shelf.Lists.{All}
@@ -19,8 +19,8 @@ use Rattle.sheet.specs.Answers.{SoundSheet, Answers}
 use Rattle.sheet.specs.Places.{entry-at, Cursor, start, HandedOut, Refused}
 use Rattle.sheet.proofs.Entries.{entry-same}
 use Rattle.sheet.specs.Wholes.{Counted, TheAnswer}
-use Rattle.sheet.proofs.Sheets.{one-list, one-answer, accepted}
-use Rattle.sheet.proofs.Turns.{entry-some, Progress, progress-none, progress-more, progress-done, progress-fault, reads-list}
+use Rattle.sheet.proofs.Sheets.{not-nothing, one-list, one-answer, accepted}
+use Rattle.sheet.proofs.Turns.{Progress, progress-none, progress-more, progress-done, progress-fault, reads-list}
 
 need-count-push : (es : List Entry) (e : Entry) → need-count (es ++ e ∷ []) ≡ need-count es + length (e .needs)
 need-count-push [] e = omega arith
@@ -67,10 +67,6 @@ counting-done bs from entries needs c some end = record {
   some = some;
   are = λ i. record { entries = c .entries-are i; needs = c .needs-are i };
 }
-
--- an entry's record is not nothing
-not-nothing : (e : Entry) (t : List ℕ) → entry-bytes e ++ t ≡ [] → ⊥
-not-nothing e t same = omega (arith, ap length same, length-append (entry-bytes e) t, entry-some e)
 
 -- records that were read are the first of all
 rest-of : (i : ℕ) (ds es : List Entry) (e : Entry) (t : List ℕ) → Numbered Sound i ds → Fits e → Numbered Sound i es → sheet-bytes ds ++ (entry-bytes e ++ t) ≡ sheet-bytes es → (after : List Entry) × (es ≡ ds ++ e ∷ after)

@@ -56,13 +56,13 @@ sound-free i bs e t sound whole = go
     go NeedOrder = (e, begins, sound .ordered)
 
 -- the question that finds a fault stands at its place in the list
-placed : (f : Fault) → getD questions (question f - 12) TooMany ≡ f
-placed TooMany = refl
-placed HighBits = refl
-placed NeedGap = refl
-placed CutShort = refl
-placed AmountRange = refl
-placed NeedOrder = refl
+at-its-place : (f : Fault) → getD questions (question f - 12) TooMany ≡ f
+at-its-place TooMany = refl
+at-its-place HighBits = refl
+at-its-place NeedGap = refl
+at-its-place CutShort = refl
+at-its-place AmountRange = refl
+at-its-place NeedOrder = refl
 
 question-range : (f : Fault) → (12 ≤ question f) × (question f ≤ 17)
 question-range TooMany = omega arith
@@ -79,12 +79,12 @@ asked f g i bs less first =
     let high = question-range g .1 in
     let low = question-range f .0 in
     let inside : question f - 12 < length (asked-before g) = omega arith in
-    subst (λ h. Free h i bs) (getD-take (question g - 12) questions (question f - 12) TooMany (omega arith) ∙ placed f)
+    subst (λ h. Free h i bs) (getD-take (question g - 12) questions (question f - 12) TooMany (omega arith) ∙ at-its-place f)
     (all-getD (λ h. Free h i bs) (asked-before g) (question f - 12) TooMany inside (first .before))
 
 pub first-same : (f g : Fault) (i : ℕ) (bs : List ℕ) → First f i bs → First g i bs → f ≡ g
 first-same f g i bs x y =
-    ⊎-elim (λ same. sym (placed f) ∙ ap (λ n. getD questions (n - 12) TooMany) same ∙ placed g)
+    ⊎-elim (λ same. sym (at-its-place f) ∙ ap (λ n. getD questions (n - 12) TooMany) same ∙ at-its-place g)
     (⊎-elim (λ (l : question f < question g). absurd (x .fails (asked f g i bs l y))) (λ (l : question g < question f). absurd (y .fails (asked g f i bs l x))))
     (cases-order (question f) (question g))
 
@@ -92,14 +92,15 @@ first-same f g i bs x y =
 Stops : ℕ → List ℕ → Type 0
 Stops i bs = (bs ≡ []) ⊎ ((f : Fault) × First f i bs)
 
-nothing : (e : Entry) (t : List ℕ) → [] ≡ entry-bytes e ++ t → ⊥
+-- an entry's record is not nothing
+pub not-nothing : (e : Entry) (t : List ℕ) → entry-bytes e ++ t ≡ [] → ⊥
 unfolding entry-bytes
-nothing e t same = let z : _≡_ {A = ℕ} 0 1 = cc in omega arith
+not-nothing e t same = let z : _≡_ {A = ℕ} 0 1 = cc in omega arith
 
 -- a sound record does not stop there
 goes-on : (i : ℕ) (bs : List ℕ) (e : Entry) (t : List ℕ) → Sound i e → bs ≡ entry-bytes e ++ t → Stops i bs → ⊥
 unfolding Stops
-goes-on i bs e t sound whole (inl none) = nothing e t (sym none ∙ whole)
+goes-on i bs e t sound whole (inl none) = not-nothing e t (sym whole ∙ none)
 goes-on i bs e t sound whole (inr (f, first)) = first .fails (sound-free i bs e t sound whole f)
 
 sheet-more : (e : Entry) (es : List Entry) (t : List ℕ) → sheet-bytes (e ∷ es) ++ t ≡ entry-bytes e ++ (sheet-bytes es ++ t)
