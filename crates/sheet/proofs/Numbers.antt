@@ -10,6 +10,10 @@ use Rattle.std.proofs.shelf.Lists.{length-push, same-from-push, take-at, drop-a
 use Rattle.sheet.specs.Format.{bytes}
 use Rattle.sheet.specs.Places.{number-at}
 
+-- every byte is one
+abbrev pub Bytes : List ℕ → Type 0
+Bytes bs = (k : ℕ) → getD bs k 0 < 256
+
 pub length-bytes : (n x : ℕ) → length (bytes n x) ≡ n
 unfolding bytes
 length-bytes zero x = refl
@@ -33,7 +37,7 @@ bytes-same (suc n) x y hx hy same =
     omega arith
 
 -- the bytes of the number that is read at p are those that stand there
-pub bytes-at : (bs : List ℕ) (p n : ℕ) → ((k : ℕ) → getD bs k 0 < 256) → p + n ≤ length bs → bytes n (number-at bs p n) ≡ take n (drop p bs)
+pub bytes-at : (bs : List ℕ) (p n : ℕ) → Bytes bs → p + n ≤ length bs → bytes n (number-at bs p n) ≡ take n (drop p bs)
 unfolding bytes number-at
 bytes-at bs p zero small inside = refl
 bytes-at bs p (suc n) small inside =
@@ -43,7 +47,7 @@ bytes-at bs p (suc n) small inside =
     let reach : n < length (drop p bs) = omega (arith, length-drop p bs) in
     rw (front, last, bytes-at bs p n small (omega arith), ← getD-drop p bs n 0) (sym (rw add-one at (take-more (drop p bs) n 0 reach)))
 
-pub number-below : (bs : List ℕ) (p n : ℕ) → ((k : ℕ) → getD bs k 0 < 256) → number-at bs p n < 256 ^ n
+pub number-below : (bs : List ℕ) (p n : ℕ) → Bytes bs → number-at bs p n < 256 ^ n
 unfolding number-at
 number-below bs p zero small = omega arith
 number-below bs p (suc n) small = omega (arith, pow-suc 256 n, number-below bs p n small, small (p + n))

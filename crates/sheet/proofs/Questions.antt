@@ -14,8 +14,9 @@ use Rattle.sheet.specs.Answers.{Begins, Free, First}
 use Rattle.sheet.specs.Places.{entry-at, placed, HandedOut}
 use Rattle.sheet.specs.Layout.{laid, size}
 use Rattle.sheet.proofs.Entries.{same-kind, length-entry, entry-same}
+use Rattle.sheet.proofs.Numbers.{Bytes}
 use Rattle.sheet.proofs.Sheets.{first-byte}
-use Rattle.sheet.proofs.Standing.{Bytes, laid-fits, laid-map, laid-size, laid-places, laid-stands, stands-there}
+use Rattle.sheet.proofs.Standing.{laid-fits, laid-map, laid-size, laid-places, laid-stands, stands-there}
 
 -- the record r at p, laid by the bit map m with k needs
 pub record Laid (bs : List ℕ) (i p : ℕ) (r : Record) : Type 0 where

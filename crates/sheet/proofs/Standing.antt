@@ -5,26 +5,17 @@ use Prim.Native.Nat.{ℕ, zero, suc, _+_, _-_, _*_, _/_, _%_, _^_, _≤_, _<_}
 use native.Mathlib.Omega.{arith}
 use lib.ListN.{length, getD, drop}
 use Rattle.std.proofs.shelf.Lists.{append-assoc, take-append-drop, drop-drop, drop-more}
-use Rattle.std.specs.Options.{mapped}
 use Rattle.std.specs.declared.option.Option.{Option}
 use Rattle.std.specs.declared.option.Option.the-variants.{Some, None}
 use Rattle.std.specs.shelf.Lists.{All}
 use Rattle.sheet.specs.Format.{Entry, bytes, amount-bytes, need-bytes, flag, bit-map, entry-bytes}
 use Rattle.sheet.specs.Sound.{Under, Fits}
-use Rattle.sheet.specs.Places.{number-at, needs-at, kind-of, earning-place, cost-place, entry-at, place, placed}
+use Rattle.sheet.specs.Places.{number-at, amount-at, needs-at, kind-of, earning-place, cost-place, entry-at, place, placed}
 use Rattle.sheet.specs.Layout.{field, laid, size}
-use Rattle.sheet.proofs.Numbers.{bytes-at, number-below}
+use Rattle.sheet.proofs.Numbers.{Bytes, bytes-at, number-below}
 use Rattle.sheet.proofs.Entries.{length-amount, length-entry, regroup}
 use Rattle.sheet.proofs.Maps.{map-parts}
 use Rattle.sheet.proofs.Needs.{length-needs-at}
-
--- every byte is one
-abbrev pub Bytes : List ℕ → Type 0
-Bytes bs = (k : ℕ) → getD bs k 0 < 256
-
--- the amount at a place, where there is one
-abbrev pub amount-at : List ℕ → Option ℕ → Option ℕ
-amount-at bs o = mapped (λ p. number-at bs p 4) o
 
 flag-field : (bs : List ℕ) (b p : ℕ) → b ≤ 1 → flag (amount-at bs (field b p)) ≡ b
 flag-field bs zero p h = refl

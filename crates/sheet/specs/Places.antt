@@ -23,6 +23,10 @@ unfoldable pub number-at : List ℕ → ℕ → ℕ → ℕ
 number-at bs p zero = 0
 number-at bs p (suc n) = number-at bs p n * 256 + getD bs (p + n) 0
 
+-- the amount at a place, where there is one
+abbrev pub amount-at : List ℕ → Option ℕ → Option ℕ
+amount-at bs o = mapped (λ p. number-at bs p 4) o
+
 -- the k numbers of two bytes from p on
 unfoldable pub needs-at : List ℕ → ℕ → ℕ → List ℕ
 needs-at bs p zero = []
@@ -50,8 +54,8 @@ cost-place (Both p q) = Some q
 -- the entry that stands at the places of a record
 abbrev pub entry-at : List ℕ → Record → Entry
 entry-at bs r = record {
-  earning = mapped (λ p. number-at bs p 4) (earning-place (r .kind));
-  cost = mapped (λ p. number-at bs p 4) (cost-place (r .kind));
+  earning = amount-at bs (earning-place (r .kind));
+  cost = amount-at bs (cost-place (r .kind));
   needs = needs-at bs (r .needs) (r .count);
 }
 

@@ -1,8 +1,7 @@
 // A reader: a cursor over a borrowed sheet that hands out its records, one after another, and copies nothing.
 ghost use mathlib.Core.Path.{_≡_};
-ghost use Rattle.std.specs.Options.{mapped};
 ghost use Rattle.std.specs.shelf.Maps.{nth};
-ghost use Rattle.sheet.specs.Places.{Handed, InTurn, amount, entry-at, number-at, start};
+ghost use Rattle.sheet.specs.Places.{Handed, InTurn, amount, amount-at, entry-at, start};
 ghost use Rattle.sheet.specs.Readers.{sheet-of, cursor};
 use super::bytes::amount_at;
 use super::bytes::nth_need;
@@ -56,7 +55,7 @@ impl<'a> Reader<'a> {
 
     // The amount at a place, and 0 where there is no place.
     fn amount(&self, place: Option<usize>) -> u32
-        ensures { λ r. ⌜ r ≡ amount (mapped (λ p. number-at (sheet-of (now (self .entry))) p 4) place) ⌝ }
+        ensures { λ r. ⌜ r ≡ amount (amount-at (sheet-of (now (self .entry))) place) ⌝ }
     {
         match place {
             None => 0,

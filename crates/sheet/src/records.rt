@@ -1,7 +1,7 @@
 // A record of a sheet, told as places, and the questions that are put to it.
 ghost use mathlib.Core.Path.{_≡_};
 ghost use Prim.Native.Nat.{ℕ, _+_, _-_, _*_, _/_, _%_, _^_, _<_, _≤_};
-ghost use Rattle.std.specs.Options.{Cases as BySome, mapped};
+ghost use Rattle.std.specs.Options.{Cases as BySome};
 ghost use Rattle.std.specs.Orderings.{Decides};
 ghost use Rattle.std.specs.Results.{Cases as ByOk};
 ghost use Rattle.std.specs.declared.option.Option.the-variants.{Some};
@@ -9,7 +9,7 @@ ghost use Rattle.std.specs.declared.result.Result.the-variants.{Ok};
 ghost use Rattle.sheet.specs.Answers.{First};
 ghost use lib.ListN.{length, drop};
 ghost use Rattle.sheet.specs.Layout.{field, laid};
-ghost use Rattle.sheet.specs.Places.{HandedOut, InTurn, cost-place, earning-place, kind-of, needs-at, number-at};
+ghost use Rattle.sheet.specs.Places.{HandedOut, InTurn, amount-at, cost-place, earning-place, kind-of, needs-at};
 ghost use Rattle.sheet.specs.Sound.{InRange, Ordered};
 use super::bytes::amount_at;
 use super::bytes::need_at;
@@ -119,7 +119,7 @@ fn layout(number: usize, byte: usize, map: u8, count: u8) -> Record
 
 // Whether the amount at a place, if it has one, is between 1 and the largest.
 fn amount_in_range(sheet: &[u8], place: Option<usize>) -> bool
-    ensures { λ r. ⌜ Decides r (InRange (mapped (λ p. number-at (now (sheet .entry)) p 4) place)) ⌝ }
+    ensures { λ r. ⌜ Decides r (InRange (amount-at (now (sheet .entry)) place)) ⌝ }
 {
     match place {
         None => true,
@@ -131,7 +131,7 @@ fn amount_in_range(sheet: &[u8], place: Option<usize>) -> bool
 }
 
 fn amounts_in_range(sheet: &[u8], kind: Kind) -> bool
-    ensures { λ r. ⌜ Decides r (InRange (mapped (λ p. number-at (now (sheet .entry)) p 4) (earning-place kind)) × InRange (mapped (λ p. number-at (now (sheet .entry)) p 4) (cost-place kind))) ⌝ }
+    ensures { λ r. ⌜ Decides r (InRange (amount-at (now (sheet .entry)) (earning-place kind)) × InRange (amount-at (now (sheet .entry)) (cost-place kind))) ⌝ }
 {
     amount_in_range(sheet, kind.earning()) && amount_in_range(sheet, kind.cost())
 }
