@@ -1,0 +1,3 @@
+pub mod Nets
+pub mod Refusals
+pub mod Answers

@@ -1,0 +1,7 @@
+// The two terminals of a network.
+
+#[derive(Clone, Copy, PartialEq, Eq, Debug)]
+pub enum Terminal {
+    Source,
+    Sink,
+}
