@@ -14,13 +14,13 @@ use Rattle.network.specs.Nets.{Ends, Net, taken, shifted}
 
 -- x, where the node is there
 abbrev pub at-node : {A : Type 0} → Net → ℕ → A → Result A NetworkRefusal
-at-node v u x = cond (ltb u (v .nodes)) (Ok x) (Err NoNode)
+at-node v u x = cond (ltb u (v .graph .nodes)) (Ok x) (Err NoNode)
 
 abbrev pub terminal-answer : Net → Terminal → ℕ → Result ℕ NetworkRefusal
 terminal-answer v t u = at-node v u (v .terminal t u)
 
 abbrev pub place-answer : Net → ℕ → ℕ → Result (Option ℕ) NetworkRefusal
-place-answer v u k = at-node v u (nth (v .arcs u) k)
+place-answer v u k = at-node v u (nth (v .graph .arcs u) k)
 
 -- f of the arc's ends, where the arc is there
 abbrev pub at-arc : {A : Type 0} → (Ends → Result A NetworkRefusal) → Option Ends → Result A NetworkRefusal
@@ -28,20 +28,24 @@ at-arc f None = Err NoArc
 at-arc f (Some e) = f e
 
 abbrev pub ends-answer : Net → ℕ → Result (ℕ × ℕ × ℕ) NetworkRefusal
-ends-answer v a = at-arc (λ e. Ok (e .tail, e .head, e .reverse)) (v .ends a)
+ends-answer v a = at-arc (λ e. Ok (e .tail, e .head, e .reverse)) (v .graph .ends a)
 
 abbrev pub residual-answer : Net → ℕ → Result ℕ NetworkRefusal
-residual-answer v a = at-arc (λ _. Ok (v .residual a)) (v .ends a)
+residual-answer v a = at-arc (λ _. Ok (v .residual a)) (v .graph .ends a)
+
+-- what a change answers that is accepted
+abbrev pub done : Result (Unit {0}) NetworkRefusal
+done = Ok tt
 
 -- whether an amount is at most a residual
 abbrev pub within : ℕ → ℕ → Result (Unit {0}) NetworkRefusal
-within x r = cond (leb x r) (Ok tt) (Err AboveResidual)
+within x r = cond (leb x r) done (Err AboveResidual)
 
 abbrev pub take-answer : Net → Terminal → ℕ → ℕ → Result (Unit {0}) NetworkRefusal
-take-answer v t u x = cond (ltb u (v .nodes)) (within x (v .terminal t u)) (Err NoNode)
+take-answer v t u x = cond (ltb u (v .graph .nodes)) (within x (v .terminal t u)) (Err NoNode)
 
 abbrev pub shift-answer : Net → ℕ → ℕ → Result (Unit {0}) NetworkRefusal
-shift-answer v a x = at-arc (λ _. within x (v .residual a)) (v .ends a)
+shift-answer v a x = at-arc (λ _. within x (v .residual a)) (v .graph .ends a)
 
 -- w after an accepted change, v after a refused one
 abbrev pub after : Result (Unit {0}) NetworkRefusal → Net → Net → Net

@@ -3,9 +3,11 @@ ghost use mathlib.Core.Path.{_≡_};
 ghost use Rattle.network.specs.Nets.{Net, Lawful};
 ghost use Rattle.network.specs.Answers.{terminal-answer, place-answer, ends-answer, residual-answer, take-answer, after-take, shift-answer, after-shift};
 
+pub mod mark;
 pub mod refusal;
 pub mod terminal;
 
+pub use mark::Mark;
 pub use refusal::NetworkRefusal;
 pub use terminal::Terminal;
 
@@ -18,7 +20,7 @@ pub trait Network {
     ghost lawful: { (x : Self) → Lawful (value x) };
 
     fn node_count(&self) -> usize
-        ensures { λ r. ⌜ r ≡ value (now (self .entry)) .nodes ⌝ };
+        ensures { λ r. ⌜ r ≡ value (now (self .entry)) .graph .nodes ⌝ };
 
     // What can still be sent from the source to the node, or from the node to the sink.
     fn terminal_residual(&self, terminal: Terminal, node: usize) -> Result<u64, NetworkRefusal>

@@ -1,0 +1,141 @@
+-- Carrying out augmenting paths: the laws stand, and each path lowers every selection's cost by its amount.
+use mathlib.Core.Path.{_≡_, refl, sym, ap, subst, _∙_}
+use mathlib.Core.List.{List, [], _∷_, _++_, map}
+use mathlib.Core.Logic.{⊎-elim}
+use Prim.Native.Nat.{ℕ, zero, suc, _+_, _≤_, _<_}
+use native.Mathlib.Omega.{arith}
+use lib.ListN.{length}
+use Rattle.std.proofs.shelf.Tests.{cases-eq, cases-bool}
+use Rattle.std.specs.declared.option.Option.{Option}
+use Rattle.std.specs.declared.option.Option.the-variants.{Some}
+use Rattle.std.specs.shelf.Lists.{All}
+use Rattle.std.specs.shelf.Maps.{nth}
+use Rattle.network.specs.declared.terminal.Terminal.{Terminal}
+use Rattle.network.specs.declared.terminal.Terminal.the-variants.{Source, Sink}
+use Rattle.network.specs.Nets.{Ends, Graph, Net, LawfulGraph, Lawful, Distinct, ends-of, taken, shifted}
+use Rattle.network.specs.Cuts.{Selection, cost}
+use Rattle.network.specs.Paths.{Path, Chain, passed, last, Augmenting, on-the-way, shifted-along, carried, Successive, carried-all, gain}
+use Rattle.network.proofs.Laws.{ends-are, head-there, one-ends, residuals, taken-lawful, shifted-lawful}
+use Rattle.network.proofs.Costs.{when, taken-cost, shifted-cost}
+
+distinct-more : (x : ℕ) (xs : List ℕ) → Distinct (x ∷ xs) → Distinct xs
+distinct-more x xs d j k y p q = omega (arith, d (suc j) (suc k) y p q)
+
+not-again : (x : ℕ) (xs : List ℕ) → Distinct (x ∷ xs) → (k : ℕ) → nth xs k ≡ Some x → ⊥
+not-again x xs d k p = omega (arith, d 0 (suc k) x refl p)
+
+-- each arc of a chain stands where its tail stands among the nodes passed
+tails-passed : (g : Graph) (u : ℕ) (arcs : List ℕ) → Chain g u arcs → (k b : ℕ) → nth arcs k ≡ Some b → (d : Ends) × (g .ends b ≡ Some d) × (nth (passed g u arcs) k ≡ Some (d .tail))
+tails-passed g u [] c k b at = let z : _≡_ {A = ℕ} 0 1 = cc in absurd (omega arith)
+tails-passed g u (a ∷ more) (e, is, from, c) zero b at =
+    let same : a ≡ b = cc in
+    (e, ap (g .ends) (sym same) ∙ is, ap (λ x. Some x) (sym from))
+tails-passed g u (a ∷ more) (e, is, from, c) (suc k) b at =
+    let (d, at-b, tail) = tails-passed g (e .head) more c k b at in
+    (d, at-b, subst (λ (x : Ends). nth (passed g (x .head) more) k ≡ Some (d .tail)) (sym (ends-are g a e is)) tail)
+
+pub last-there : (g : Graph) (u : ℕ) (arcs : List ℕ) → LawfulGraph g → u < g .nodes → Chain g u arcs → last g u arcs < g .nodes
+last-there g u [] l there c = there
+last-there g u (a ∷ more) l there (e, is, from, c) =
+    subst (λ (x : Ends). last g (x .head) more < g .nodes) (sym (ends-are g a e is)) (last-there g (e .head) more l (head-there g a e l is) c)
+
+-- every arc has room for x
+abbrev pub Roomy : Net → List ℕ → ℕ → Type 0
+Roomy v arcs x = (k b : ℕ) → nth arcs k ≡ Some b → x ≤ v .residual b
+
+-- after a shift along the first arc of a chain of distinct nodes, the others have as much room as before, or more
+roomy-more : (v : Net) (u a x : ℕ) (e : Ends) (more : List ℕ) → Lawful v → v .graph .ends a ≡ Some e → e .tail ≡ u → Chain (v .graph) (e .head) more → Distinct (u ∷ passed (v .graph) (e .head) more) → Roomy v (a ∷ more) x → Roomy (shifted v a x) more x
+roomy-more v u a x e more l is from c d room k b at =
+    let after : ℕ → ℕ = shifted v a x .residual in
+    let before : ℕ → ℕ = v .residual in
+    let now = residuals v a x e l is in
+    let far : b ≡ a → ⊥ = λ same.
+    let (f, at-b, tail) = tails-passed (v .graph) (e .head) more c k b at in
+    let one = one-ends (v .graph) a f e (ap (v .graph .ends) (sym same) ∙ at-b) is in
+    not-again u (passed (v .graph) (e .head) more) d k (tail ∙ ap (λ (y : Ends). Some (y .tail)) one ∙ ap (λ y. Some y) from) in
+    ⊎-elim
+    (λ (same : b ≡ e .reverse). omega (arith, ap after same, ap before same, now .back, room (suc k) b at))
+    (λ (other : b ≡ e .reverse → ⊥). omega (arith, now .others b far other, room (suc k) b at))
+    (cases-eq b (e .reverse))
+
+-- what shifting x along a chain from u to w leaves and changes
+pub record Along (v : Net) (u w x : ℕ) (after : Net) : Type 0 where
+  pub graph : after .graph ≡ v .graph
+  pub terminal : after .terminal ≡ v .terminal
+  pub lawful : Lawful after
+  pub costs : (X : Selection) → cost after X + when (X u) x ≡ cost v X + when (X w) x
+
+pub along : (v : Net) (u : ℕ) (arcs : List ℕ) (x : ℕ) → Lawful v → Chain (v .graph) u arcs → Distinct (passed (v .graph) u arcs) → Roomy v arcs x → Along v u (last (v .graph) u arcs) x (shifted-along v arcs x)
+along v u [] x l c d room = record { graph = refl; terminal = refl; lawful = l; costs = λ X. refl }
+along v u (a ∷ more) x l (e, is, from, c) d room =
+    let g = v .graph in
+    let ends = ends-are g a e is in
+    let apart = subst (λ (y : Ends). Distinct (u ∷ passed g (y .head) more)) ends d in
+    let room-first = room 0 a refl in
+    let rest = along (shifted v a x) (e .head) more x (shifted-lawful v a x e l is room-first) c (distinct-more u (passed g (e .head) more) apart) (roomy-more v u a x e more l is from c apart room) in
+    subst (λ (y : Ends). Along v u (last g (y .head) more) x (shifted-along (shifted v a x) more x)) (sym ends) (record {
+      graph = rest .graph;
+      terminal = rest .terminal;
+      lawful = rest .lawful;
+      costs = λ X. omega (arith, rest .costs X, shifted-cost v X a x e l is room-first, ap (λ y. when (X y) x) from);
+    })
+
+-- what carrying out paths of x in all leaves and changes
+pub record Carried (v : Net) (x : ℕ) (after : Net) : Type 0 where
+  pub graph : after .graph ≡ v .graph
+  pub lawful : Lawful after
+  pub costs : (X : Selection) → cost after X + x ≡ cost v X
+
+room-of : (f : ℕ → ℕ) (arcs ys : List ℕ) (x k b : ℕ) → All (λ r. x ≤ r) (map f arcs ++ ys) → nth arcs k ≡ Some b → x ≤ f b
+room-of f [] ys x k b least at = let z : _≡_ {A = ℕ} 0 1 = cc in absurd (omega arith)
+room-of f (a ∷ arcs) ys x zero b least at = let same : a ≡ b = cc in subst (λ y. x ≤ f y) same (least .0)
+room-of f (a ∷ arcs) ys x (suc k) b least at = room-of f arcs ys x k b (least .1) at
+
+room-last : (xs : List ℕ) (x y : ℕ) → All (λ r. x ≤ r) (xs ++ y ∷ []) → x ≤ y
+room-last [] x y least = least .0
+room-last (z ∷ xs) x y least = room-last xs x y (least .1)
+
+pub path-carried : (v : Net) (p : Path) → Lawful v → Augmenting v p → Carried v (p .amount) (carried v p)
+path-carried v p l h =
+    let g = v .graph in
+    let u = p .first in
+    let w = last g u (p .arcs) in
+    let x = p .amount in
+    let least = h .amount .least in
+    let begun = taken v Source u x in
+    let way = along begun u (p .arcs) x (taken-lawful v Source u x l) (h .chain) (h .distinct) (λ k b. room-of (v .residual) (p .arcs) (v .terminal Sink w ∷ []) x k b (least .1)) in
+    let moved = shifted-along begun (p .arcs) x in
+    let there : w < moved .graph .nodes = subst (λ (y : Graph). w < y .nodes) (sym (way .graph)) (last-there g u (p .arcs) (l .graph) (h .there) (h .chain)) in
+    let room : x ≤ moved .terminal Sink w = subst (λ (f : Terminal → ℕ → ℕ). x ≤ f Sink w) (sym (way .terminal)) (room-last (map (v .residual) (p .arcs)) x (v .terminal Sink w) (least .1)) in
+    record {
+      graph = way .graph;
+      lawful = taken-lawful moved Sink w x (way .lawful);
+      costs = λ X.
+          let first = taken-cost v X Source u x (h .there) (least .0) in
+          let chain = way .costs X in
+          let end = taken-cost moved X Sink w x there room in
+          grind (arith, cases-bool (X u), cases-bool (X w));
+    }
+
+pub paths-carried : (v : Net) (ps : List Path) → Lawful v → Successive v ps → Carried v (gain ps) (carried-all v ps)
+paths-carried v [] l h = record { graph = refl; lawful = l; costs = λ X. omega arith }
+paths-carried v (p ∷ ps) l (h, more) =
+    let one = path-carried v p l h in
+    let rest = paths-carried (carried v p) ps (one .lawful) more in
+    record {
+      graph = rest .graph ∙ one .graph;
+      lawful = rest .lawful;
+      costs = λ X. omega (arith, one .costs X, rest .costs X);
+    }
+
+all-at : (P : ℕ → Type 0) (xs : List ℕ) (k x : ℕ) → All P xs → nth xs k ≡ Some x → P x
+all-at P [] k x all at = let z : _≡_ {A = ℕ} 0 1 = cc in absurd (omega arith)
+all-at P (y ∷ xs) zero x all at = let same : y ≡ x = cc in subst P same (all .0)
+all-at P (y ∷ xs) (suc k) x all at = all-at P xs k x (all .1) at
+
+pub some-amount : (v : Net) (p : Path) → Augmenting v p → 0 < p .amount
+some-amount v p h = all-at (λ r. 0 < r) (on-the-way v (p .first) (p .arcs)) (h .amount .place) (p .amount) (h .positive) (h .amount .among)
+
+pub no-more-than-gain : (v : Net) (ps : List Path) → Successive v ps → length ps ≤ gain ps
+no-more-than-gain v [] h = omega arith
+no-more-than-gain v (p ∷ ps) (h, more) = omega (arith, some-amount v p h, no-more-than-gain (carried v p) ps more)
