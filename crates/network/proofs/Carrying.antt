@@ -15,14 +15,10 @@ use Rattle.network.specs.declared.terminal.Terminal.the-variants.{Source, Sink
 use Rattle.network.specs.Nets.{Ends, Graph, Net, LawfulGraph, Lawful, Distinct, ends-of, taken, shifted}
 use Rattle.network.specs.Cuts.{Selection, cost}
 use Rattle.network.specs.Paths.{Path, Chain, passed, last, Augmenting, on-the-way, shifted-along, carried, Successive, carried-all, gain}
+use Rattle.network.specs.Theorems.{PathLowers, PathsLower}
+use Rattle.network.proofs.Pigeons.{distinct-more, not-again}
 use Rattle.network.proofs.Laws.{ends-are, head-there, one-ends, residuals, taken-lawful, shifted-lawful}
 use Rattle.network.proofs.Costs.{when, taken-cost, shifted-cost}
-
-distinct-more : (x : ℕ) (xs : List ℕ) → Distinct (x ∷ xs) → Distinct xs
-distinct-more x xs d j k y p q = omega (arith, d (suc j) (suc k) y p q)
-
-not-again : (x : ℕ) (xs : List ℕ) → Distinct (x ∷ xs) → (k : ℕ) → nth xs k ≡ Some x → ⊥
-not-again x xs d k p = omega (arith, d 0 (suc k) x refl p)
 
 -- each arc of a chain stands where its tail stands among the nodes passed
 tails-passed : (g : Graph) (u : ℕ) (arcs : List ℕ) → Chain g u arcs → (k b : ℕ) → nth arcs k ≡ Some b → (d : Ends) × (g .ends b ≡ Some d) × (nth (passed g u arcs) k ≡ Some (d .tail))
@@ -139,3 +135,9 @@ some-amount v p h = all-at (λ r. 0 < r) (on-the-way v (p .first) (p .arcs)) (h 
 pub no-more-than-gain : (v : Net) (ps : List Path) → Successive v ps → length ps ≤ gain ps
 no-more-than-gain v [] h = omega arith
 no-more-than-gain v (p ∷ ps) (h, more) = omega (arith, some-amount v p h, no-more-than-gain (carried v p) ps more)
+
+pub path-lowers : PathLowers
+path-lowers v p l h = let c = path-carried v p l h in (c .lawful, c .costs)
+
+pub paths-lower : PathsLower
+paths-lower v ps l h = let c = paths-carried v ps l h in (c .lawful, c .costs, no-more-than-gain v ps h)

@@ -14,6 +14,7 @@ use Rattle.network.specs.Nets.{Ends, Net, Lawful}
 use Rattle.network.specs.Cuts.{Selection, sum-below, node-cost, leaves, arc-cost, cost}
 use Rattle.network.specs.Sides.{Reached, Separate, side, Closed}
 use Rattle.network.specs.Sides.Reached.{root, along}
+use Rattle.network.specs.Theorems.{ReachedSides}
 use Rattle.network.proofs.Sums.{sum-zero, part-le-sum}
 use Rattle.network.proofs.Laws.{head-there}
 
@@ -52,7 +53,7 @@ free-closed v X l free = record {
     roots Source u there some = let part = part-le-sum (v .graph .nodes) u (node-cost v X) there in grind (arith, cases-bool (X u))
     roots Sink u there some = let part = part-le-sum (v .graph .nodes) u (node-cost v X) there in grind (arith, cases-bool (X u))
 
-pub reached-side : (v : Net) (X : Selection) (t : Terminal) (u : ℕ) → Closed v X → Reached v t u → side t X u ≡ true
+pub reached-side : ReachedSides
 reached-side v X t u c (root there some) = c .roots t u there some
 reached-side v X Source u c (along a e is some r from) = subst (λ w. X w ≡ true) from (c .arcs a e is some (reached-side v X Source (e .tail) c r))
 reached-side v X Sink u c (along a e is some r from) =

@@ -1,8 +1,17 @@
 -- What is proved of every network's value: the theory of the cheapest cut.
-use Prim.Native.Nat.{ℕ}
+use mathlib.Core.Path.{_≡_}
+use mathlib.Core.Bool.{true}
+use mathlib.Core.List.{List}
+use Prim.Native.Nat.{ℕ, _+_, _≤_, _<_}
+use lib.ListN.{length}
+use Rattle.network.specs.declared.mark.Mark.{Mark}
 use Rattle.network.specs.declared.terminal.Terminal.{Terminal}
+use Rattle.network.specs.declared.terminal.Terminal.the-variants.{Source, Sink}
 use Rattle.network.specs.Nets.{Net, Lawful}
 use Rattle.network.specs.Answers.{after-take, after-shift}
+use Rattle.network.specs.Cuts.{Selection, cost, Cheapest, CheapestCost, Marked}
+use Rattle.network.specs.Paths.{Path, Augmenting, carried, Successive, carried-all, gain, path-words}
+use Rattle.network.specs.Sides.{Reached, Separate, side, Closed, mark-by}
 
 -- a take keeps the laws, whatever it is asked
 abbrev pub TakeKeeps : Type 0
@@ -11,3 +20,42 @@ TakeKeeps = (v : Net) (t : Terminal) (u x : ℕ) → Lawful v → Lawful (after-
 -- and so does a shift
 abbrev pub ShiftKeeps : Type 0
 ShiftKeeps = (v : Net) (a x : ℕ) → Lawful v → Lawful (after-shift v a x)
+
+-- carrying out an augmenting path keeps the laws and lowers the cost of every selection by its amount
+abbrev pub PathLowers : Type 0
+PathLowers = (v : Net) (p : Path) → Lawful v → Augmenting v p → Lawful (carried v p) × ((X : Selection) → cost (carried v p) X + p .amount ≡ cost v X)
+
+-- a list of paths lowers it by their gain, and has no more paths than that
+abbrev pub PathsLower : Type 0
+PathsLower = (v : Net) (ps : List Path) → Lawful v → Successive v ps → Lawful (carried-all v ps) × ((X : Selection) → cost (carried-all v ps) X + gain ps ≡ cost v X) × (length ps ≤ gain ps)
+
+-- a path takes at most n + 2 words in a trail
+abbrev pub FewWords : Type 0
+FewWords = (v : Net) (p : Path) → Lawful v → Augmenting v p → length (path-words p) ≤ v .graph .nodes + 2
+
+-- the closed selections are those that cost nothing
+abbrev pub ClosedFree : Type 0
+ClosedFree = (v : Net) (X : Selection) → Lawful v → (Closed v X → cost v X ≡ 0) × (cost v X ≡ 0 → Closed v X)
+
+-- where a selection costs nothing, the cheapest selections are the closed ones
+abbrev pub CheapestClosed : Type 0
+CheapestClosed = (v : Net) (X Y : Selection) → Lawful v → cost v X ≡ 0 → (Cheapest v Y → Closed v Y) × (Closed v Y → Cheapest v Y)
+
+-- what is reached from a terminal is on its side of every closed selection
+abbrev pub ReachedSides : Type 0
+ReachedSides = (v : Net) (X : Selection) (t : Terminal) (u : ℕ) → Closed v X → Reached v t u → side t X u ≡ true
+
+-- where no node is reached from both terminals, what is reached from the source is the smallest cheapest selection, and
+-- what is not reached from the sink the largest; and the marks follow
+abbrev pub Extremes : Type 0
+Extremes = (v : Net) (S : Terminal → Selection) → Lawful v → Separate v S → (CheapestCost v 0)
+    × ((t : Terminal) → Cheapest v (side t (S t)))
+    × ((X : Selection) (t : Terminal) (u : ℕ) → Cheapest v X → u < v .graph .nodes → S t u ≡ true → side t X u ≡ true)
+    × ((u : ℕ) → u < v .graph .nodes → Marked v u (mark-by (S Source u) (S Sink u)))
+
+-- costs that differ by a constant have the same cheapest selections and the same marks, and cheapest costs that differ by
+-- that constant
+abbrev pub ConstantApart : Type 0
+ConstantApart = (v w : Net) (c : ℕ) → ((X : Selection) → cost w X + c ≡ cost v X) → ((X : Selection) → (Cheapest w X → Cheapest v X) × (Cheapest v X → Cheapest w X))
+    × ((k : ℕ) → CheapestCost w k → CheapestCost v (k + c))
+    × ((u : ℕ) (m : Mark) → Marked w u m → Marked v u m)

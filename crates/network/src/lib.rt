@@ -6,6 +6,7 @@ ghost use Rattle.network.specs.Answers.{terminal-answer, place-answer, ends-an
 pub mod mark;
 pub mod refusal;
 pub mod terminal;
+mod theorems;
 
 pub use mark::Mark;
 pub use refusal::NetworkRefusal;

@@ -1,0 +1,6 @@
+use Rattle.network.proofs.Carrying.{path-lowers, paths-lower}
+use Rattle.network.proofs.Pigeons.{few-words}
+use Rattle.network.proofs.theorems.paths_lower_every_cost.Needs as need
+
+pub returns : need.returns
+returns c = record { one = path-lowers; many = paths-lower; words = few-words }

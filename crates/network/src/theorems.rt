@@ -1,0 +1,24 @@
+// The theory of the cheapest cut: each contract here is a theorem about every network's value, and no body does anything.
+ghost use Rattle.network.specs.Theorems.{TakeKeeps, ShiftKeeps, PathLowers, PathsLower, FewWords, ClosedFree, CheapestClosed, ReachedSides, Extremes, ConstantApart};
+
+fn changes_keep_the_laws()
+    ensures take { λ _. ⌜ TakeKeeps ⌝ }
+    ensures shift { λ _. ⌜ ShiftKeeps ⌝ }
+{}
+
+fn paths_lower_every_cost()
+    ensures one { λ _. ⌜ PathLowers ⌝ }
+    ensures many { λ _. ⌜ PathsLower ⌝ }
+    ensures words { λ _. ⌜ FewWords ⌝ }
+{}
+
+fn closed_selections_are_cheapest()
+    ensures free { λ _. ⌜ ClosedFree ⌝ }
+    ensures cheapest { λ _. ⌜ CheapestClosed ⌝ }
+    ensures reached { λ _. ⌜ ReachedSides ⌝ }
+    ensures extremes { λ _. ⌜ Extremes ⌝ }
+{}
+
+fn a_constant_changes_no_mark()
+    ensures { λ _. ⌜ ConstantApart ⌝ }
+{}
