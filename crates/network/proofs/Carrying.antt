@@ -5,6 +5,7 @@ use mathlib.Core.Logic.{⊎-elim}
 use Prim.Native.Nat.{ℕ, zero, suc, _+_, _≤_, _<_}
 use native.Mathlib.Omega.{arith}
 use lib.ListN.{length}
+use Rattle.std.proofs.shelf.Elements.{all-has}
 use Rattle.std.proofs.shelf.Tests.{cases-eq, cases-bool}
 use Rattle.std.specs.declared.option.Option.{Option}
 use Rattle.std.specs.declared.option.Option.the-variants.{Some}
@@ -124,13 +125,8 @@ paths-carried v (p ∷ ps) l (h, more) =
       costs = λ X. omega (arith, one .costs X, rest .costs X);
     }
 
-all-at : (P : ℕ → Type 0) (xs : List ℕ) (k x : ℕ) → All P xs → nth xs k ≡ Some x → P x
-all-at P [] k x all at = let z : _≡_ {A = ℕ} 0 1 = cc in absurd (omega arith)
-all-at P (y ∷ xs) zero x all at = let same : y ≡ x = cc in subst P same (all .0)
-all-at P (y ∷ xs) (suc k) x all at = all-at P xs k x (all .1) at
-
 pub some-amount : (v : Net) (p : Path) → Augmenting v p → 0 < p .amount
-some-amount v p h = all-at (λ r. 0 < r) (on-the-way v (p .first) (p .arcs)) (h .amount .place) (p .amount) (h .positive) (h .amount .among)
+some-amount v p h = all-has (λ r. 0 < r) (on-the-way v (p .first) (p .arcs)) (p .amount) (h .positive) (h .amount .among)
 
 pub no-more-than-gain : (v : Net) (ps : List Path) → Successive v ps → length ps ≤ gain ps
 no-more-than-gain v [] h = omega arith

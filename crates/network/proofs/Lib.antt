@@ -5,3 +5,6 @@ pub mod Costs
 pub mod Carrying
 pub mod Closing
 pub mod Extremes
+pub mod Chains
+pub mod Searching
+pub mod Duality

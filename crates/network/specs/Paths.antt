@@ -5,8 +5,7 @@ use Prim.Native.Nat.{ℕ, _+_, _≤_, _<_}
 use lib.ListN.{length}
 use Rattle.std.specs.declared.option.Option.{Option}
 use Rattle.std.specs.declared.option.Option.the-variants.{Some}
-use Rattle.std.specs.shelf.Lists.{All}
-use Rattle.std.specs.shelf.Maps.{nth}
+use Rattle.std.specs.shelf.Lists.{All, Has}
 use Rattle.network.specs.declared.terminal.Terminal.the-variants.{Source, Sink}
 use Rattle.network.specs.Nets.{Ends, Graph, Net, Distinct, ends-of, taken, shifted}
 
@@ -37,8 +36,7 @@ on-the-way v u arcs = v .terminal Source u ∷ (map (v .residual) arcs ++ v .ter
 
 -- x is the smallest of rs
 pub record Smallest (x : ℕ) (rs : List ℕ) : Type 0 where
-  pub place : ℕ
-  pub among : nth rs place ≡ Some x
+  pub among : Has rs x
   pub least : All (λ r. x ≤ r) rs
 
 pub record Augmenting (v : Net) (p : Path) : Type 0 where

@@ -59,3 +59,20 @@ abbrev pub ConstantApart : Type 0
 ConstantApart = (v w : Net) (c : ℕ) → ((X : Selection) → cost w X + c ≡ cost v X) → ((X : Selection) → (Cheapest w X → Cheapest v X) × (Cheapest v X → Cheapest w X))
     × ((k : ℕ) → CheapestCost w k → CheapestCost v (k + c))
     × ((u : ℕ) (m : Mark) → Marked w u m → Marked v u m)
+
+-- where paths were carried out until no node is reached from both terminals, their gain is the cheapest cost of the network
+-- as it was before them, and its marks follow from what is reached after them
+abbrev pub Finished : Type 0
+Finished = (v : Net) (ps : List Path) (S : Terminal → Selection) → Lawful v → Successive v ps → Separate (carried-all v ps) S → CheapestCost v (gain ps) × ((u : ℕ) → u < v .graph .nodes → Marked v u (mark-by (S Source u) (S Sink u)))
+
+-- an augmenting path is left exactly when no selection costs nothing
+abbrev pub PathLeft : Type 0
+PathLeft = (v : Net) → Lawful v → (((p : Path) × Augmenting v p) → (X : Selection) → cost v X ≡ 0 → ⊥) × (((X : Selection) → cost v X ≡ 0 → ⊥) → (p : Path) × Augmenting v p)
+
+-- every network has a cheapest selection, and paths whose gain is its cost
+abbrev pub MaxFlowMinCut : Type 0
+MaxFlowMinCut = (v : Net) → Lawful v → (ps : List Path) × Successive v ps × CheapestCost v (gain ps)
+
+-- a node has one mark at most
+abbrev pub OneMark : Type 0
+OneMark = (v : Net) (u : ℕ) (m k : Mark) → Lawful v → Marked v u m → Marked v u k → m ≡ k

@@ -1,5 +1,5 @@
 // The theory of the cheapest cut: each contract here is a theorem about every network's value, and no body does anything.
-ghost use Rattle.network.specs.Theorems.{TakeKeeps, ShiftKeeps, PathLowers, PathsLower, FewWords, ClosedFree, CheapestClosed, ReachedSides, Extremes, ConstantApart};
+ghost use Rattle.network.specs.Theorems.{TakeKeeps, ShiftKeeps, PathLowers, PathsLower, FewWords, ClosedFree, CheapestClosed, ReachedSides, Extremes, ConstantApart, Finished, PathLeft, MaxFlowMinCut, OneMark};
 
 fn changes_keep_the_laws()
     ensures take { λ _. ⌜ TakeKeeps ⌝ }
@@ -21,4 +21,11 @@ fn closed_selections_are_cheapest()
 
 fn a_constant_changes_no_mark()
     ensures { λ _. ⌜ ConstantApart ⌝ }
+{}
+
+fn paths_gain_what_a_cut_costs()
+    ensures finished { λ _. ⌜ Finished ⌝ }
+    ensures left { λ _. ⌜ PathLeft ⌝ }
+    ensures most { λ _. ⌜ MaxFlowMinCut ⌝ }
+    ensures mark { λ _. ⌜ OneMark ⌝ }
 {}
