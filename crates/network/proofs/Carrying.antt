@@ -4,19 +4,17 @@ use mathlib.Core.List.{List, [], _∷_, _++_, map}
 use mathlib.Core.Logic.{⊎-elim}
 use Prim.Native.Nat.{ℕ, zero, suc, _+_, _≤_, _<_}
 use native.Mathlib.Omega.{arith}
-use lib.ListN.{length}
 use Rattle.std.proofs.shelf.Elements.{all-has}
 use Rattle.std.proofs.shelf.Tests.{cases-eq, cases-bool}
-use Rattle.std.specs.declared.option.Option.{Option}
 use Rattle.std.specs.declared.option.Option.the-variants.{Some}
 use Rattle.std.specs.shelf.Lists.{All}
 use Rattle.std.specs.shelf.Maps.{nth}
 use Rattle.network.specs.declared.terminal.Terminal.{Terminal}
 use Rattle.network.specs.declared.terminal.Terminal.the-variants.{Source, Sink}
-use Rattle.network.specs.Nets.{Ends, Graph, Net, LawfulGraph, Lawful, Distinct, ends-of, taken, shifted}
+use Rattle.network.specs.Nets.{Ends, Graph, Net, LawfulGraph, Lawful, Distinct, taken, shifted}
 use Rattle.network.specs.Cuts.{Selection, cost}
-use Rattle.network.specs.Paths.{Path, Chain, passed, last, Augmenting, on-the-way, shifted-along, carried, Successive, carried-all, gain}
-use Rattle.network.specs.Theorems.{PathLowers, PathsLower}
+use Rattle.network.specs.Paths.{Path, Chain, passed, last, Augmenting, on-the-way, shifted-along, carried}
+use Rattle.network.specs.Theorems.{PathLowers, PathsLower, FewPaths}
 use Rattle.network.proofs.Pigeons.{distinct-more, not-again}
 use Rattle.network.proofs.Laws.{ends-are, head-there, one-ends, residuals, taken-lawful, shifted-lawful}
 use Rattle.network.proofs.Costs.{when, taken-cost, shifted-cost}
@@ -77,12 +75,6 @@ along v u (a ∷ more) x l (e, is, from, c) d room =
       costs = λ X. omega (arith, rest .costs X, shifted-cost v X a x e l is room-first, ap (λ y. when (X y) x) from);
     })
 
--- what carrying out paths of x in all leaves and changes
-pub record Carried (v : Net) (x : ℕ) (after : Net) : Type 0 where
-  pub graph : after .graph ≡ v .graph
-  pub lawful : Lawful after
-  pub costs : (X : Selection) → cost after X + x ≡ cost v X
-
 room-of : (f : ℕ → ℕ) (arcs ys : List ℕ) (x k b : ℕ) → All (λ r. x ≤ r) (map f arcs ++ ys) → nth arcs k ≡ Some b → x ≤ f b
 room-of f [] ys x k b least at = let z : _≡_ {A = ℕ} 0 1 = cc in absurd (omega arith)
 room-of f (a ∷ arcs) ys x zero b least at = let same : a ≡ b = cc in subst (λ y. x ≤ f y) same (least .0)
@@ -92,8 +84,8 @@ room-last : (xs : List ℕ) (x y : ℕ) → All (λ r. x ≤ r) (xs ++ y ∷ [])
 room-last [] x y least = least .0
 room-last (z ∷ xs) x y least = room-last xs x y (least .1)
 
-pub path-carried : (v : Net) (p : Path) → Lawful v → Augmenting v p → Carried v (p .amount) (carried v p)
-path-carried v p l h =
+pub path-lowers : PathLowers
+path-lowers v p l h =
     let g = v .graph in
     let u = p .first in
     let w = last g u (p .arcs) in
@@ -114,11 +106,11 @@ path-carried v p l h =
           grind (arith, cases-bool (X u), cases-bool (X w));
     }
 
-pub paths-carried : (v : Net) (ps : List Path) → Lawful v → Successive v ps → Carried v (gain ps) (carried-all v ps)
-paths-carried v [] l h = record { graph = refl; lawful = l; costs = λ X. omega arith }
-paths-carried v (p ∷ ps) l (h, more) =
-    let one = path-carried v p l h in
-    let rest = paths-carried (carried v p) ps (one .lawful) more in
+pub paths-lower : PathsLower
+paths-lower v [] l h = record { graph = refl; lawful = l; costs = λ X. omega arith }
+paths-lower v (p ∷ ps) l (h, more) =
+    let one = path-lowers v p l h in
+    let rest = paths-lower (carried v p) ps (one .lawful) more in
     record {
       graph = rest .graph ∙ one .graph;
       lawful = rest .lawful;
@@ -128,12 +120,6 @@ paths-carried v (p ∷ ps) l (h, more) =
 pub some-amount : (v : Net) (p : Path) → Augmenting v p → 0 < p .amount
 some-amount v p h = all-has (λ r. 0 < r) (on-the-way v (p .first) (p .arcs)) (p .amount) (h .positive) (h .amount .among)
 
-pub no-more-than-gain : (v : Net) (ps : List Path) → Successive v ps → length ps ≤ gain ps
-no-more-than-gain v [] h = omega arith
-no-more-than-gain v (p ∷ ps) (h, more) = omega (arith, some-amount v p h, no-more-than-gain (carried v p) ps more)
-
-pub path-lowers : PathLowers
-path-lowers v p l h = let c = path-carried v p l h in (c .lawful, c .costs)
-
-pub paths-lower : PathsLower
-paths-lower v ps l h = let c = paths-carried v ps l h in (c .lawful, c .costs, no-more-than-gain v ps h)
+pub few-paths : FewPaths
+few-paths v [] h = omega arith
+few-paths v (p ∷ ps) (h, more) = omega (arith, some-amount v p h, few-paths (carried v p) ps more)

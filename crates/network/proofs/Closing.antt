@@ -1,18 +1,17 @@
 -- Closed selections: they are those that cost nothing, and what is reached from a terminal is on its side of each.
-use mathlib.Core.Path.{_≡_, refl, sym, ap, subst, _∙_}
-use mathlib.Core.Bool.{Bool, true, false, not, _&&_, cond}
+use mathlib.Core.Path.{_≡_, refl, ap, subst}
+use mathlib.Core.Bool.{Bool, true, false, not}
 use mathlib.Core.Logic.{⊎-elim}
-use Prim.Native.Nat.{ℕ, _+_, _≤_, _<_}
+use Prim.Native.Nat.{ℕ, _<_}
 use native.Mathlib.Omega.{arith}
 use Rattle.std.proofs.shelf.Tests.{cases-bool, false≢true}
-use Rattle.std.proofs.shelf.Ways.{tells}
 use Rattle.std.specs.declared.option.Option.{Option}
 use Rattle.std.specs.declared.option.Option.the-variants.{Some, None}
 use Rattle.network.specs.declared.terminal.Terminal.{Terminal}
 use Rattle.network.specs.declared.terminal.Terminal.the-variants.{Source, Sink}
 use Rattle.network.specs.Nets.{Ends, Net, Lawful}
-use Rattle.network.specs.Cuts.{Selection, sum-below, node-cost, leaves, arc-cost, cost}
-use Rattle.network.specs.Sides.{Reached, Separate, side, Closed}
+use Rattle.network.specs.Cuts.{Selection, node-cost, arc-cost, cost}
+use Rattle.network.specs.Sides.{Separate, side, Closed}
 use Rattle.network.specs.Sides.Reached.{root, along}
 use Rattle.network.specs.Theorems.{ReachedSides}
 use Rattle.network.proofs.Sums.{sum-zero, part-le-sum}

@@ -1,17 +1,15 @@
 -- How the cost of a selection moves with a take and with a shift, told without subtraction.
 use mathlib.Core.Path.{_≡_, refl, sym, subst}
-use mathlib.Core.Bool.{Bool, true, false, not, _&&_, cond}
-use mathlib.Core.Logic.{⊎-elim}
+use mathlib.Core.Bool.{Bool, not, cond}
 use Prim.Native.Nat.{ℕ, _+_, _-_, _≤_, _<_}
 use native.Mathlib.Omega.{arith}
 use Rattle.std.proofs.shelf.Tests.{cases-bool}
 use Rattle.std.proofs.shelf.Ways.{tells}
-use Rattle.std.specs.declared.option.Option.{Option}
 use Rattle.std.specs.declared.option.Option.the-variants.{Some}
 use Rattle.network.specs.declared.terminal.Terminal.{Terminal}
 use Rattle.network.specs.declared.terminal.Terminal.the-variants.{Source, Sink}
-use Rattle.network.specs.Nets.{Ends, Net, Lawful, reversed, reverse-of, with-terminal, with-residual, taken, shifted}
-use Rattle.network.specs.Cuts.{Selection, sum-below, node-cost, leaves, arc-cost, cost}
+use Rattle.network.specs.Nets.{Ends, Net, Lawful, reversed, with-terminal, with-residual, taken, shifted}
+use Rattle.network.specs.Cuts.{Selection, node-cost, leaves, arc-cost, cost}
 use Rattle.network.proofs.Sums.{sum-differs}
 use Rattle.network.proofs.Laws.{reverse-is}
 

@@ -8,3 +8,4 @@ pub mod Extremes
 pub mod Chains
 pub mod Searching
 pub mod Duality
+pub mod Trails

@@ -9,16 +9,14 @@ use lib.Dec.{eqb, ltb}
 use Rattle.std.proofs.shelf.Elements.{all-push, all-weaker}
 use Rattle.std.proofs.shelf.Lists.{map-append}
 use Rattle.std.proofs.shelf.Tests.{cases-eq, cases-lt, cases-bool, true≢false, lt-ltb, ltb-true, eq-eqb, ne-eqb}
-use Rattle.std.proofs.shelf.Ways.{tells}
 use Rattle.std.specs.declared.option.Option.{Option}
 use Rattle.std.specs.declared.option.Option.the-variants.{Some, None}
-use Rattle.std.specs.shelf.Lists.{All, Has}
+use Rattle.std.specs.shelf.Lists.{All}
 use Rattle.std.specs.shelf.Maps.{nth}
-use Rattle.network.specs.declared.terminal.Terminal.{Terminal}
 use Rattle.network.specs.declared.terminal.Terminal.the-variants.{Source, Sink}
-use Rattle.network.specs.Nets.{Ends, Net, Lawful, Distinct, at, ends-of}
-use Rattle.network.specs.Cuts.{Selection, sum-below, node-cost, leaves, arc-cost, cost}
-use Rattle.network.specs.Paths.{Path, Chain, passed, last, on-the-way, Smallest, Augmenting}
+use Rattle.network.specs.Nets.{Ends, Net, Lawful, Distinct, at}
+use Rattle.network.specs.Cuts.{Selection, sum-below, node-cost, arc-cost, cost}
+use Rattle.network.specs.Paths.{Path, Chain, passed, last, Smallest, Augmenting}
 use Rattle.network.proofs.Sums.{sum-differs, sum-zero}
 use Rattle.network.proofs.Laws.{ends-are, head-there}
 use Rattle.network.proofs.Chains.{chain-push, passed-push, last-push, distinct-push, distinct-one}

@@ -1,6 +1,6 @@
 -- What is reached from a terminal along arcs of positive residual, and the selections that nothing can be sent out of.
 use mathlib.Core.Path.{_≡_}
-use mathlib.Core.Bool.{Bool, true, false, not, cond}
+use mathlib.Core.Bool.{Bool, true, false, not}
 use Prim.Native.Nat.{ℕ, _<_}
 use Rattle.std.specs.declared.option.Option.the-variants.{Some}
 use Rattle.network.specs.declared.mark.Mark.{Mark}

@@ -1,5 +1,5 @@
 // The theory of the cheapest cut: each contract here is a theorem about every network's value, and no body does anything.
-ghost use Rattle.network.specs.Theorems.{TakeKeeps, ShiftKeeps, PathLowers, PathsLower, FewWords, ClosedFree, CheapestClosed, ReachedSides, Extremes, ConstantApart, Finished, PathLeft, MaxFlowMinCut, OneMark};
+ghost use Rattle.network.specs.Theorems.{TakeKeeps, ShiftKeeps, PathLowers, PathsLower, FewPaths, FewWords, ClosedFree, CheapestClosed, ReachedSides, Extremes, ConstantApart, Finished, PathLeft, MaxFlowMinCut, OneMark, OneReading};
 
 fn changes_keep_the_laws()
     ensures take { λ _. ⌜ TakeKeeps ⌝ }
@@ -9,7 +9,9 @@ fn changes_keep_the_laws()
 fn paths_lower_every_cost()
     ensures one { λ _. ⌜ PathLowers ⌝ }
     ensures many { λ _. ⌜ PathsLower ⌝ }
+    ensures few { λ _. ⌜ FewPaths ⌝ }
     ensures words { λ _. ⌜ FewWords ⌝ }
+    ensures reading { λ _. ⌜ OneReading ⌝ }
 {}
 
 fn closed_selections_are_cheapest()
