@@ -3,14 +3,20 @@ ghost use mathlib.Core.Path.{_≡_};
 ghost use Rattle.network.specs.Nets.{Net, Lawful};
 ghost use Rattle.network.specs.Answers.{terminal-answer, place-answer, ends-answer, residual-answer, take-answer, after-take, shift-answer, after-shift};
 
-pub mod mark;
-pub mod refusal;
-pub mod terminal;
+mod mark;
+mod refusal;
+mod terminal;
 mod theorems;
 
 pub use mark::Mark;
+pub use mark::MarkDebug;
+pub use mark::MarkPartialEq;
 pub use refusal::NetworkRefusal;
+pub use refusal::NetworkRefusalDebug;
+pub use refusal::NetworkRefusalPartialEq;
 pub use terminal::Terminal;
+pub use terminal::TerminalDebug;
+pub use terminal::TerminalPartialEq;
 
 // Nodes are numbered from 0; arcs go by codes. A question changes nothing, and a refused change neither.
 pub trait Network {
