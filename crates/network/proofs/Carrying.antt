@@ -4,7 +4,7 @@ use mathlib.Core.List.{List, [], _∷_, _++_, map}
 use mathlib.Core.Logic.{⊎-elim}
 use Prim.Native.Nat.{ℕ, zero, suc, _+_, _≤_, _<_}
 use native.Mathlib.Omega.{arith}
-use Rattle.std.proofs.shelf.Elements.{all-has}
+use Rattle.std.proofs.shelf.Elements.{all-has, has-push}
 use Rattle.std.proofs.shelf.Tests.{cases-eq, cases-bool}
 use Rattle.std.specs.declared.option.Option.the-variants.{Some}
 use Rattle.std.specs.shelf.Lists.{All}
@@ -80,10 +80,6 @@ room-of f [] ys x k b least at = let z : _≡_ {A = ℕ} 0 1 = cc in absurd (ome
 room-of f (a ∷ arcs) ys x zero b least at = let same : a ≡ b = cc in subst (λ y. x ≤ f y) same (least .0)
 room-of f (a ∷ arcs) ys x (suc k) b least at = room-of f arcs ys x k b (least .1) at
 
-room-last : (xs : List ℕ) (x y : ℕ) → All (λ r. x ≤ r) (xs ++ y ∷ []) → x ≤ y
-room-last [] x y least = least .0
-room-last (z ∷ xs) x y least = room-last xs x y (least .1)
-
 pub path-lowers : PathLowers
 path-lowers v p l h =
     let g = v .graph in
@@ -95,7 +91,7 @@ path-lowers v p l h =
     let way = along begun u (p .arcs) x (taken-lawful v Source u x l) (h .chain) (h .distinct) (λ k b. room-of (v .residual) (p .arcs) (v .terminal Sink w ∷ []) x k b (least .1)) in
     let moved = shifted-along begun (p .arcs) x in
     let there : w < moved .graph .nodes = subst (λ (y : Graph). w < y .nodes) (sym (way .graph)) (last-there g u (p .arcs) (l .graph) (h .there) (h .chain)) in
-    let room : x ≤ moved .terminal Sink w = subst (λ (f : Terminal → ℕ → ℕ). x ≤ f Sink w) (sym (way .terminal)) (room-last (map (v .residual) (p .arcs)) x (v .terminal Sink w) (least .1)) in
+    let room : x ≤ moved .terminal Sink w = subst (λ (f : Terminal → ℕ → ℕ). x ≤ f Sink w) (sym (way .terminal)) (all-has (λ r. x ≤ r) (map (v .residual) (p .arcs) ++ v .terminal Sink w ∷ []) (v .terminal Sink w) (least .1) (has-push (map (v .residual) (p .arcs)) (v .terminal Sink w))) in
     record {
       graph = way .graph;
       lawful = taken-lawful moved Sink w x (way .lawful);
