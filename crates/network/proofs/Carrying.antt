@@ -13,7 +13,7 @@ use Rattle.network.specs.declared.terminal.Terminal.{Terminal}
 use Rattle.network.specs.declared.terminal.Terminal.the-variants.{Source, Sink}
 use Rattle.network.specs.Nets.{Ends, Graph, Net, LawfulGraph, Lawful, Distinct, taken, shifted}
 use Rattle.network.specs.Cuts.{Selection, cost}
-use Rattle.network.specs.Paths.{Path, Chain, passed, last, Augmenting, on-the-way, shifted-along, carried}
+use Rattle.network.specs.Paths.{Path, Chain, passed, last-node, Augmenting, on-the-way, shifted-along, carried}
 use Rattle.network.specs.Theorems.{PathLowers, PathsLower, FewPaths}
 use Rattle.network.proofs.Pigeons.{distinct-more, not-again}
 use Rattle.network.proofs.Laws.{ends-are, head-there, one-ends, residuals, taken-lawful, shifted-lawful}
@@ -29,10 +29,10 @@ tails-passed g u (a ∷ more) (e, is, from, c) (suc k) b at =
     let (d, at-b, tail) = tails-passed g (e .head) more c k b at in
     (d, at-b, subst (λ (x : Ends). nth (passed g (x .head) more) k ≡ Some (d .tail)) (sym (ends-are g a e is)) tail)
 
-pub last-there : (g : Graph) (u : ℕ) (arcs : List ℕ) → LawfulGraph g → u < g .nodes → Chain g u arcs → last g u arcs < g .nodes
+pub last-there : (g : Graph) (u : ℕ) (arcs : List ℕ) → LawfulGraph g → u < g .nodes → Chain g u arcs → last-node g u arcs < g .nodes
 last-there g u [] l there c = there
 last-there g u (a ∷ more) l there (e, is, from, c) =
-    subst (λ (x : Ends). last g (x .head) more < g .nodes) (sym (ends-are g a e is)) (last-there g (e .head) more l (head-there g a e l is) c)
+    subst (λ (x : Ends). last-node g (x .head) more < g .nodes) (sym (ends-are g a e is)) (last-there g (e .head) more l (head-there g a e l is) c)
 
 -- every arc has room for x
 abbrev pub Roomy : Net → List ℕ → ℕ → Type 0
@@ -60,7 +60,7 @@ pub record Along (v : Net) (u w x : ℕ) (after : Net) : Type 0 where
   pub lawful : Lawful after
   pub costs : (X : Selection) → cost after X + when (X u) x ≡ cost v X + when (X w) x
 
-pub along : (v : Net) (u : ℕ) (arcs : List ℕ) (x : ℕ) → Lawful v → Chain (v .graph) u arcs → Distinct (passed (v .graph) u arcs) → Roomy v arcs x → Along v u (last (v .graph) u arcs) x (shifted-along v arcs x)
+pub along : (v : Net) (u : ℕ) (arcs : List ℕ) (x : ℕ) → Lawful v → Chain (v .graph) u arcs → Distinct (passed (v .graph) u arcs) → Roomy v arcs x → Along v u (last-node (v .graph) u arcs) x (shifted-along v arcs x)
 along v u [] x l c d room = record { graph = refl; terminal = refl; lawful = l; costs = λ X. refl }
 along v u (a ∷ more) x l (e, is, from, c) d room =
     let g = v .graph in
@@ -68,7 +68,7 @@ along v u (a ∷ more) x l (e, is, from, c) d room =
     let apart = subst (λ (y : Ends). Distinct (u ∷ passed g (y .head) more)) ends d in
     let room-first = room 0 a refl in
     let rest = along (shifted v a x) (e .head) more x (shifted-lawful v a x e l is room-first) c (distinct-more u (passed g (e .head) more) apart) (roomy-more v u a x e more l is from c apart room) in
-    subst (λ (y : Ends). Along v u (last g (y .head) more) x (shifted-along (shifted v a x) more x)) (sym ends) (record {
+    subst (λ (y : Ends). Along v u (last-node g (y .head) more) x (shifted-along (shifted v a x) more x)) (sym ends) (record {
       graph = rest .graph;
       terminal = rest .terminal;
       lawful = rest .lawful;
@@ -84,7 +84,7 @@ pub path-lowers : PathLowers
 path-lowers v p l h =
     let g = v .graph in
     let u = p .first in
-    let w = last g u (p .arcs) in
+    let w = last-node g u (p .arcs) in
     let x = p .amount in
     let least = h .amount .least in
     let begun = taken v Source u x in

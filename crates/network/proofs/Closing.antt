@@ -1,25 +1,29 @@
 -- Closed selections: they are those that cost nothing, and what is reached from a terminal is on its side of each.
 use mathlib.Core.Path.{_≡_, refl, ap, subst}
 use mathlib.Core.Bool.{Bool, true, false, not}
-use mathlib.Core.Logic.{⊎-elim}
 use Prim.Native.Nat.{ℕ, _<_}
 use native.Mathlib.Omega.{arith}
-use Rattle.std.proofs.shelf.Tests.{cases-bool, false≢true}
+use Rattle.std.proofs.shelf.Tests.{cases-bool}
 use Rattle.std.specs.declared.option.Option.{Option}
 use Rattle.std.specs.declared.option.Option.the-variants.{Some, None}
 use Rattle.network.specs.declared.terminal.Terminal.{Terminal}
 use Rattle.network.specs.declared.terminal.Terminal.the-variants.{Source, Sink}
-use Rattle.network.specs.Nets.{Ends, Net, Lawful}
+use Rattle.network.specs.Nets.{Ends, Graph, Net, LawfulGraph, Lawful}
 use Rattle.network.specs.Cuts.{Selection, node-cost, arc-cost, cost}
-use Rattle.network.specs.Sides.{Separate, side, Closed}
+use Rattle.network.specs.Sides.{near, far, Separate, side, Closed}
 use Rattle.network.specs.Sides.Reached.{root, along}
 use Rattle.network.specs.Theorems.{ReachedSides}
 use Rattle.network.proofs.Sums.{sum-zero, part-le-sum}
 use Rattle.network.proofs.Laws.{head-there}
 
-never-both : (b : Bool) → b ≡ true → not b ≡ true → ⊥
-never-both true p q = false≢true q
-never-both false p q = false≢true p
+contrary : (a b : Bool) → (a ≡ true → b ≡ true) → not b ≡ true → not a ≡ true
+contrary false b f h = refl
+contrary true true f h = h
+contrary true false f h = f refl
+
+outside : (b : Bool) → (b ≡ true → ⊥) → not b ≡ true
+outside false h = refl
+outside true h = absurd (h refl)
 
 pub closed-free : (v : Net) (X : Selection) → Closed v X → cost v X ≡ 0
 closed-free v X c =
@@ -52,40 +56,35 @@ free-closed v X l free = record {
     roots Source u there some = let part = part-le-sum (v .graph .nodes) u (node-cost v X) there in grind (arith, cases-bool (X u))
     roots Sink u there some = let part = part-le-sum (v .graph .nodes) u (node-cost v X) there in grind (arith, cases-bool (X u))
 
+-- an arc of positive residual that a search follows does not leave the terminal's side of a closed selection
+arcs-on-side : (v : Net) (X : Selection) (t : Terminal) (a : ℕ) (e : Ends) → Closed v X → v .graph .ends a ≡ Some e → 0 < v .residual a → side t X (near t e) ≡ true → side t X (far t e) ≡ true
+arcs-on-side v X Source a e c is some = c .arcs a e is some
+arcs-on-side v X Sink a e c is some = contrary (X (e .tail)) (X (e .head)) (c .arcs a e is some)
+
 pub reached-side : ReachedSides
 reached-side v X t u c (root there some) = c .roots t u there some
-reached-side v X Source u c (along a e is some r from) = subst (λ w. X w ≡ true) from (c .arcs a e is some (reached-side v X Source (e .tail) c r))
-reached-side v X Sink u c (along a e is some r from) =
-    let head = reached-side v X Sink (e .head) c r in
-    subst (λ w. not (X w) ≡ true) from (⊎-elim
-    (λ (inside : X (e .tail) ≡ true). absurd (never-both (X (e .head)) (c .arcs a e is some inside) head))
-    (λ (outside : X (e .tail) ≡ false). ap not outside)
-    (cases-bool (X (e .tail))))
+reached-side v X t u c (along a e is some r from) = subst (λ w. side t X w ≡ true) from (arcs-on-side v X t a e c is some (reached-side v X t (near t e) c r))
+
+near-there : (g : Graph) (t : Terminal) (a : ℕ) (e : Ends) → LawfulGraph g → g .ends a ≡ Some e → near t e < g .nodes
+near-there g Source a e l is = l .tail-there a e is
+near-there g Sink a e l is = head-there g a e l is
 
 -- where no node is reached from both terminals, what is reached from one is its side of a closed selection
 pub separate-closed : (v : Net) (S : Terminal → Selection) (t : Terminal) → Lawful v → Separate v S → Closed v (side t (S t))
-separate-closed v S Source l s = record { roots = roots; arcs = arcs }
+separate-closed v S t l s = record { roots = roots t; arcs = arcs t }
   where
-    roots : (t : Terminal) (u : ℕ) → u < v .graph .nodes → 0 < v .terminal t u → side t (S Source) u ≡ true
-    roots Source u there some = s .reached Source .complete u (root there some)
-    roots Sink u there some = ⊎-elim
-        (λ (both : S Source u ≡ true). absurd (s .apart u there both (s .reached Sink .complete u (root there some))))
-        (λ (one : S Source u ≡ false). ap not one)
-        (cases-bool (S Source u))
+    on : (t : Terminal) (u : ℕ) → u < v .graph .nodes → 0 < v .terminal t u → S t u ≡ true
+    on t u there some = s .reached t .complete u (root there some)
 
-    arcs : (a : ℕ) (e : Ends) → v .graph .ends a ≡ Some e → 0 < v .residual a → S Source (e .tail) ≡ true → S Source (e .head) ≡ true
-    arcs a e is some tail = s .reached Source .complete (e .head) (along a e is some (s .reached Source .sound (e .tail) (l .graph .tail-there a e is) tail) refl)
-separate-closed v S Sink l s = record { roots = roots; arcs = arcs }
-  where
-    roots : (t : Terminal) (u : ℕ) → u < v .graph .nodes → 0 < v .terminal t u → side t (side Sink (S Sink)) u ≡ true
-    roots Sink u there some = ap (λ b. not (not b)) (s .reached Sink .complete u (root there some))
-    roots Source u there some = ⊎-elim
-        (λ (both : S Sink u ≡ true). absurd (s .apart u there (s .reached Source .complete u (root there some)) both))
-        (λ (one : S Sink u ≡ false). ap not one)
-        (cases-bool (S Sink u))
+    roots : (t r : Terminal) (u : ℕ) → u < v .graph .nodes → 0 < v .terminal r u → side r (side t (S t)) u ≡ true
+    roots Source Source u there some = on Source u there some
+    roots Source Sink u there some = outside (S Source u) (λ both. s .apart u there both (on Sink u there some))
+    roots Sink Source u there some = outside (S Sink u) (s .apart u there (on Source u there some))
+    roots Sink Sink u there some = ap (λ b. not (not b)) (on Sink u there some)
 
-    arcs : (a : ℕ) (e : Ends) → v .graph .ends a ≡ Some e → 0 < v .residual a → not (S Sink (e .tail)) ≡ true → not (S Sink (e .head)) ≡ true
-    arcs a e is some tail = ⊎-elim
-        (λ (inside : S Sink (e .head) ≡ true). absurd (never-both (S Sink (e .tail)) (s .reached Sink .complete (e .tail) (along a e is some (s .reached Sink .sound (e .head) (head-there (v .graph) a e (l .graph) is) inside) refl)) tail))
-        (λ (outside : S Sink (e .head) ≡ false). ap not outside)
-        (cases-bool (S Sink (e .head)))
+    followed : (t : Terminal) (a : ℕ) (e : Ends) → v .graph .ends a ≡ Some e → 0 < v .residual a → S t (near t e) ≡ true → S t (far t e) ≡ true
+    followed t a e is some from = s .reached t .complete (far t e) (along a e is some (s .reached t .sound (near t e) (near-there (v .graph) t a e (l .graph) is) from) refl)
+
+    arcs : (t : Terminal) (a : ℕ) (e : Ends) → v .graph .ends a ≡ Some e → 0 < v .residual a → side t (S t) (e .tail) ≡ true → side t (S t) (e .head) ≡ true
+    arcs Source a e is some = followed Source a e is some
+    arcs Sink a e is some = contrary (S Sink (e .head)) (S Sink (e .tail)) (followed Sink a e is some)

@@ -16,7 +16,7 @@ use Rattle.std.specs.shelf.Maps.{nth}
 use Rattle.network.specs.declared.terminal.Terminal.the-variants.{Source, Sink}
 use Rattle.network.specs.Nets.{Ends, Net, Lawful, Distinct, at}
 use Rattle.network.specs.Cuts.{Selection, sum-below, node-cost, arc-cost, cost}
-use Rattle.network.specs.Paths.{Path, Chain, passed, last, Smallest, Augmenting}
+use Rattle.network.specs.Paths.{Path, Chain, passed, last-node, Smallest, Augmenting}
 use Rattle.network.proofs.Sums.{sum-differs, sum-zero}
 use Rattle.network.proofs.Laws.{ends-are, head-there}
 use Rattle.network.proofs.Chains.{chain-push, passed-push, last-push, distinct-push, distinct-one}
@@ -50,7 +50,7 @@ record Trace (v : Net) (R : Selection) (u : ℕ) : Type 0 where
   chain : Chain (v .graph) first arcs
   distinct : Distinct (passed (v .graph) first arcs)
   positive : All (λ r. 0 < r) (map (v .residual) arcs)
-  to : last (v .graph) first arcs ≡ u
+  to : last-node (v .graph) first arcs ≡ u
   inside : All (λ w. R w ≡ true) (passed (v .graph) first arcs)
 
 -- an arc of positive residual out of R
@@ -186,7 +186,7 @@ missing-less v R a l x =
 -- the path along a trace to a node from which the sink is reached
 path-found : (v : Net) (R : Selection) (u : ℕ) → 0 < v .terminal Sink u → Trace v R u → (p : Path) × Augmenting v p
 path-found v R u some t =
-    let sink = v .terminal Sink (last (v .graph) (t .first) (t .arcs)) in
+    let sink = v .terminal Sink (last-node (v .graph) (t .first) (t .arcs)) in
     let inner = map (v .residual) (t .arcs) in
     let (x, s) = smallest (v .terminal Source (t .first)) (inner ++ sink ∷ []) in (
       record { amount = x; first = t .first; arcs = t .arcs },

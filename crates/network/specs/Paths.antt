@@ -25,13 +25,13 @@ passed g u [] = u ∷ []
 passed g u (a ∷ more) = u ∷ passed g (ends-of g a .head) more
 
 -- the node where a chain from u ends
-abbrev pub last : Graph → ℕ → List ℕ → ℕ
-last g u [] = u
-last g u (a ∷ more) = last g (ends-of g a .head) more
+abbrev pub last-node : Graph → ℕ → List ℕ → ℕ
+last-node g u [] = u
+last-node g u (a ∷ more) = last-node g (ends-of g a .head) more
 
 -- the residuals on the way: the first node's from the source, the arcs', and the last node's to the sink
 abbrev pub on-the-way : Net → ℕ → List ℕ → List ℕ
-on-the-way v u arcs = v .terminal Source u ∷ (map (v .residual) arcs ++ v .terminal Sink (last (v .graph) u arcs) ∷ [])
+on-the-way v u arcs = v .terminal Source u ∷ (map (v .residual) arcs ++ v .terminal Sink (last-node (v .graph) u arcs) ∷ [])
 
 -- x is the smallest of rs
 pub record Smallest (x : ℕ) (rs : List ℕ) : Type 0 where
@@ -52,7 +52,7 @@ shifted-along v (a ∷ more) x = shifted-along (shifted v a x) more x
 
 -- v with a path carried out: its amount taken at both ends and shifted along each arc
 abbrev pub carried : Net → Path → Net
-carried v p = taken (shifted-along (taken v Source (p .first) (p .amount)) (p .arcs) (p .amount)) Sink (last (v .graph) (p .first) (p .arcs)) (p .amount)
+carried v p = taken (shifted-along (taken v Source (p .first) (p .amount)) (p .arcs) (p .amount)) Sink (last-node (v .graph) (p .first) (p .arcs)) (p .amount)
 
 -- each is an augmenting path on what those before it left
 abbrev pub Successive : Net → List Path → Type 0
