@@ -15,13 +15,13 @@ use Rattle.network.specs.Nets.{Ends, Graph, Net, LawfulGraph, Lawful, Distinct
 use Rattle.network.specs.Cuts.{Selection, cost}
 use Rattle.network.specs.Paths.{Path, Chain, passed, last-node, Augmenting, on-the-way, shifted-along, carried}
 use Rattle.network.specs.Theorems.{PathLowers, PathsLower, FewPaths}
-use Rattle.network.proofs.Pigeons.{distinct-more, not-again}
+use Rattle.network.proofs.Lists.{distinct-more, not-again, nth-nil}
 use Rattle.network.proofs.Laws.{ends-are, head-there, one-ends, residuals, taken-lawful, shifted-lawful}
 use Rattle.network.proofs.Costs.{when, taken-cost, shifted-cost}
 
 -- each arc of a chain stands where its tail stands among the nodes passed
 tails-passed : (g : Graph) (u : ℕ) (arcs : List ℕ) → Chain g u arcs → (k b : ℕ) → nth arcs k ≡ Some b → (d : Ends) × (g .ends b ≡ Some d) × (nth (passed g u arcs) k ≡ Some (d .tail))
-tails-passed g u [] c k b at = let z : _≡_ {A = ℕ} 0 1 = cc in absurd (omega arith)
+tails-passed g u [] c k b at = nth-nil k b at
 tails-passed g u (a ∷ more) (e, is, from, c) zero b at =
     let same : a ≡ b = cc in
     (e, ap (g .ends) (sym same) ∙ is, ap (λ x. Some x) (sym from))
@@ -39,7 +39,7 @@ abbrev pub Roomy : Net → List ℕ → ℕ → Type 0
 Roomy v arcs x = (k b : ℕ) → nth arcs k ≡ Some b → x ≤ v .residual b
 
 -- after a shift along the first arc of a chain of distinct nodes, the others have as much room as before, or more
-roomy-more : (v : Net) (u a x : ℕ) (e : Ends) (more : List ℕ) → Lawful v → v .graph .ends a ≡ Some e → e .tail ≡ u → Chain (v .graph) (e .head) more → Distinct (u ∷ passed (v .graph) (e .head) more) → Roomy v (a ∷ more) x → Roomy (shifted v a x) more x
+pub roomy-more : (v : Net) (u a x : ℕ) (e : Ends) (more : List ℕ) → Lawful v → v .graph .ends a ≡ Some e → e .tail ≡ u → Chain (v .graph) (e .head) more → Distinct (u ∷ passed (v .graph) (e .head) more) → Roomy v (a ∷ more) x → Roomy (shifted v a x) more x
 roomy-more v u a x e more l is from c d room k b at =
     let after : ℕ → ℕ = shifted v a x .residual in
     let before : ℕ → ℕ = v .residual in
@@ -76,27 +76,45 @@ along v u (a ∷ more) x l (e, is, from, c) d room =
     })
 
 room-of : (f : ℕ → ℕ) (arcs ys : List ℕ) (x k b : ℕ) → All (λ r. x ≤ r) (map f arcs ++ ys) → nth arcs k ≡ Some b → x ≤ f b
-room-of f [] ys x k b least at = let z : _≡_ {A = ℕ} 0 1 = cc in absurd (omega arith)
+room-of f [] ys x k b least at = nth-nil k b at
 room-of f (a ∷ arcs) ys x zero b least at = let same : a ≡ b = cc in subst (λ y. x ≤ f y) same (least .0)
 room-of f (a ∷ arcs) ys x (suc k) b least at = room-of f arcs ys x k b (least .1) at
 
+-- every arc of an augmenting path has room for its amount
+pub path-room : (v : Net) (p : Path) → Augmenting v p → Roomy v (p .arcs) (p .amount)
+path-room v p h k b = room-of (v .residual) (p .arcs) (v .terminal Sink (last-node (v .graph) (p .first) (p .arcs)) ∷ []) (p .amount) k b (h .amount .least .1)
+
+-- the amount taken at the path's first node
+abbrev pub begun : Net → Path → Net
+begun v p = taken v Source (p .first) (p .amount)
+
+path-along : (v : Net) (p : Path) → Lawful v → Augmenting v p → Along (begun v p) (p .first) (last-node (v .graph) (p .first) (p .arcs)) (p .amount) (shifted-along (begun v p) (p .arcs) (p .amount))
+path-along v p l h = along (begun v p) (p .first) (p .arcs) (p .amount) (taken-lawful v Source (p .first) (p .amount) l) (h .chain) (h .distinct) (path-room v p h)
+
+-- where a path ends, its amount can be taken
+pub path-end : (v : Net) (p : Path) → Lawful v → Augmenting v p → (last-node (v .graph) (p .first) (p .arcs) < shifted-along (begun v p) (p .arcs) (p .amount) .graph .nodes) × (p .amount ≤ shifted-along (begun v p) (p .arcs) (p .amount) .terminal Sink (last-node (v .graph) (p .first) (p .arcs)))
+path-end v p l h =
+    let g = v .graph in
+    let w = last-node g (p .first) (p .arcs) in
+    let x = p .amount in
+    let way = path-along v p l h in (
+      subst (λ (y : Graph). w < y .nodes) (sym (way .graph)) (last-there g (p .first) (p .arcs) (l .graph) (h .there) (h .chain)),
+      subst (λ (f : Terminal → ℕ → ℕ). x ≤ f Sink w) (sym (way .terminal)) (all-has (λ r. x ≤ r) (map (v .residual) (p .arcs) ++ v .terminal Sink w ∷ []) (v .terminal Sink w) (h .amount .least .1) (has-push (map (v .residual) (p .arcs)) (v .terminal Sink w))),
+    )
+
 pub path-lowers : PathLowers
 path-lowers v p l h =
-    let g = v .graph in
     let u = p .first in
-    let w = last-node g u (p .arcs) in
+    let w = last-node (v .graph) u (p .arcs) in
     let x = p .amount in
-    let least = h .amount .least in
-    let begun = taken v Source u x in
-    let way = along begun u (p .arcs) x (taken-lawful v Source u x l) (h .chain) (h .distinct) (λ k b. room-of (v .residual) (p .arcs) (v .terminal Sink w ∷ []) x k b (least .1)) in
-    let moved = shifted-along begun (p .arcs) x in
-    let there : w < moved .graph .nodes = subst (λ (y : Graph). w < y .nodes) (sym (way .graph)) (last-there g u (p .arcs) (l .graph) (h .there) (h .chain)) in
-    let room : x ≤ moved .terminal Sink w = subst (λ (f : Terminal → ℕ → ℕ). x ≤ f Sink w) (sym (way .terminal)) (all-has (λ r. x ≤ r) (map (v .residual) (p .arcs) ++ v .terminal Sink w ∷ []) (v .terminal Sink w) (least .1) (has-push (map (v .residual) (p .arcs)) (v .terminal Sink w))) in
+    let way = path-along v p l h in
+    let moved = shifted-along (begun v p) (p .arcs) x in
+    let (there, room) = path-end v p l h in
     record {
       graph = way .graph;
       lawful = taken-lawful moved Sink w x (way .lawful);
       costs = λ X.
-          let first = taken-cost v X Source u x (h .there) (least .0) in
+          let first = taken-cost v X Source u x (h .there) (h .amount .least .0) in
           let chain = way .costs X in
           let end = taken-cost moved X Sink w x there room in
           grind (arith, cases-bool (X u), cases-bool (X w));

@@ -8,13 +8,13 @@ use Rattle.std.specs.declared.option.Option.{Option}
 use Rattle.std.specs.declared.option.Option.the-variants.{Some, None}
 use Rattle.network.specs.declared.terminal.Terminal.{Terminal}
 use Rattle.network.specs.declared.terminal.Terminal.the-variants.{Source, Sink}
-use Rattle.network.specs.Nets.{Ends, Graph, Net, LawfulGraph, Lawful}
+use Rattle.network.specs.Nets.{Ends, Net, Lawful}
 use Rattle.network.specs.Cuts.{Selection, node-cost, arc-cost, cost}
 use Rattle.network.specs.Sides.{near, far, Separate, side, Closed}
 use Rattle.network.specs.Sides.Reached.{root, along}
 use Rattle.network.specs.Theorems.{ReachedSides}
 use Rattle.network.proofs.Sums.{sum-zero, part-le-sum}
-use Rattle.network.proofs.Laws.{head-there}
+use Rattle.network.proofs.Laws.{near-there}
 
 contrary : (a b : Bool) → (a ≡ true → b ≡ true) → not b ≡ true → not a ≡ true
 contrary false b f h = refl
@@ -64,10 +64,6 @@ arcs-on-side v X Sink a e c is some = contrary (X (e .tail)) (X (e .head)) (c .a
 pub reached-side : ReachedSides
 reached-side v X t u c (root there some) = c .roots t u there some
 reached-side v X t u c (along a e is some r from) = subst (λ w. side t X w ≡ true) from (arcs-on-side v X t a e c is some (reached-side v X t (near t e) c r))
-
-near-there : (g : Graph) (t : Terminal) (a : ℕ) (e : Ends) → LawfulGraph g → g .ends a ≡ Some e → near t e < g .nodes
-near-there g Source a e l is = l .tail-there a e is
-near-there g Sink a e l is = head-there g a e l is
 
 -- where no node is reached from both terminals, what is reached from one is its side of a closed selection
 pub separate-closed : (v : Net) (S : Terminal → Selection) (t : Terminal) → Lawful v → Separate v S → Closed v (side t (S t))

@@ -1,4 +1,4 @@
--- Take and shift keep the laws.
+-- What the laws say of arcs and their ends, what take and shift change, and that both keep the laws.
 use mathlib.Core.Path.{_≡_, refl, sym, ap, _∙_}
 use mathlib.Core.Logic.{⊎-elim}
 use Prim.Native.Nat.{ℕ, _+_, _-_, _≤_, _<_}
@@ -9,12 +9,13 @@ use Rattle.std.specs.declared.option.Option.{Option}
 use Rattle.std.specs.declared.option.Option.the-variants.{Some, None}
 use Rattle.std.specs.declared.result.Result.{Result}
 use Rattle.std.specs.declared.result.Result.the-variants.{Ok, Err}
-use Rattle.std.specs.shelf.Maps.{valueOr}
+use Rattle.std.specs.shelf.Maps.{valueOr, nth}
 use Rattle.network.specs.declared.refusal.NetworkRefusal.{NetworkRefusal}
 use Rattle.network.specs.declared.terminal.Terminal.{Terminal}
 use Rattle.network.specs.declared.terminal.Terminal.the-variants.{Source, Sink}
 use Rattle.network.specs.Nets.{Ends, Graph, Net, LawfulGraph, Lawful, reversed, ends-of, at, taken, shifted, reverse-of}
 use Rattle.network.specs.Answers.{done, take-answer, shift-answer, after}
+use Rattle.network.specs.Sides.{near, far}
 use Rattle.network.specs.Theorems.{TakeKeeps, ShiftKeeps}
 
 at-le : (f : ℕ → ℕ) (u x k : ℕ) → x ≤ f u → at f u x k ≤ f k
@@ -46,6 +47,23 @@ reverse-is g a e is = ap (λ (x : Ends). x .reverse) (ends-are g a e is)
 pub head-there : (g : Graph) (a : ℕ) (e : Ends) → LawfulGraph g → g .ends a ≡ Some e → e .head < g .nodes
 head-there g a e l is = l .tail-there (e .reverse) (reversed a e) (l .back a e is)
 
+-- both ends of an arc are there, as a search meets them, and its reverse has them exchanged
+pub near-there : (g : Graph) (t : Terminal) (a : ℕ) (e : Ends) → LawfulGraph g → g .ends a ≡ Some e → near t e < g .nodes
+near-there g Source a e l is = l .tail-there a e is
+near-there g Sink a e l is = head-there g a e l is
+
+pub far-there : (g : Graph) (t : Terminal) (a : ℕ) (e : Ends) → LawfulGraph g → g .ends a ≡ Some e → far t e < g .nodes
+far-there g Source a e l is = head-there g a e l is
+far-there g Sink a e l is = l .tail-there a e is
+
+pub near-reversed : (t : Terminal) (a : ℕ) (e : Ends) → near t (reversed a e) ≡ far t e
+near-reversed Source a e = refl
+near-reversed Sink a e = refl
+
+pub far-reversed : (t : Terminal) (a : ℕ) (e : Ends) → far t (reversed a e) ≡ near t e
+far-reversed Source a e = refl
+far-reversed Sink a e = refl
+
 -- the residuals after a shift: the arc's, its reverse's, and every other arc's
 pub record Residuals (v : Net) (a b x : ℕ) : Type 0 where
   pub arc : shifted v a x .residual a ≡ v .residual a - x
@@ -67,7 +85,7 @@ pub one-ends : (g : Graph) (a : ℕ) (e d : Ends) → g .ends a ≡ Some e → g
 one-ends g a e d p q = cc
 
 -- the reverse's reverse is the arc, so arcs with the same reverse are the same
-reverse-once : (g : Graph) (a b : ℕ) (e d : Ends) → LawfulGraph g → g .ends a ≡ Some e → g .ends b ≡ Some d → e .reverse ≡ d .reverse → a ≡ b
+pub reverse-once : (g : Graph) (a b : ℕ) (e d : Ends) → LawfulGraph g → g .ends a ≡ Some e → g .ends b ≡ Some d → e .reverse ≡ d .reverse → a ≡ b
 reverse-once g a b e d l at-a at-b same =
     ap (λ (y : Ends). y .reverse) (one-ends g (e .reverse) (reversed a e) (reversed b d) (l .back a e at-a) (ap (g .ends) same ∙ l .back b d at-b))
 
@@ -123,3 +141,10 @@ shift-accepted v a x ok = by (v .graph .ends a) refl
 
 pub shift-keeps : ShiftKeeps
 shift-keeps v a x l = after-keeps (shift-answer v a x) (shifted v a x) v (λ ok. let (e, is, less) = shift-accepted v a x ok in shifted-lawful v a x e l is less) l
+
+-- an arc that stands at a place is there
+pub not-missing : (v : Net) (u k a : ℕ) → Lawful v → u < v .graph .nodes → nth (v .graph .arcs u) k ≡ Some a → v .graph .ends a ≡ None → ⊥
+not-missing v u k a l there at none =
+    let (e, is, from) = l .graph .own u k a there at in
+    let z : _≡_ {A = ℕ} 0 1 = cc in
+    omega arith

@@ -1,4 +1,5 @@
 pub mod Sums
+pub mod Lists
 pub mod Pigeons
 pub mod Laws
 pub mod Costs

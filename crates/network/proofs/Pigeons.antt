@@ -17,13 +17,8 @@ use Rattle.network.specs.Cuts.{sum-below}
 use Rattle.network.specs.Paths.{Chain, passed}
 use Rattle.network.specs.Theorems.{FewWords}
 use Rattle.network.proofs.Sums.{sum-zero, sum-differs}
+use Rattle.network.proofs.Lists.{not-again, distinct-more}
 use Rattle.network.proofs.Laws.{ends-are, head-there}
-
-pub distinct-more : (x : ℕ) (xs : List ℕ) → Distinct (x ∷ xs) → Distinct xs
-distinct-more x xs d j k y p q = omega (arith, d (suc j) (suc k) y p q)
-
-pub not-again : (x : ℕ) (xs : List ℕ) → Distinct (x ∷ xs) → (k : ℕ) → nth xs k ≡ Some x → ⊥
-not-again x xs d k p = omega (arith, d 0 (suc k) x refl p)
 
 -- how often k stands in a list
 abbrev count : ℕ → List ℕ → ℕ
@@ -52,7 +47,7 @@ count-all n (x ∷ xs) (first, below) =
     let one : count x (x ∷ xs) ≡ 1 + count x xs = grind (arith, tells) in
     omega (arith, count-all n xs below)
 
-sum-ones : (n : ℕ) (f : ℕ → ℕ) → ((k : ℕ) → f k ≤ 1) → sum-below n f ≤ n
+pub sum-ones : (n : ℕ) (f : ℕ → ℕ) → ((k : ℕ) → f k ≤ 1) → sum-below n f ≤ n
 unfolding sum-below
 sum-ones zero f one = omega arith
 sum-ones (suc n) f one = omega (arith, sum-ones n f one, one n)

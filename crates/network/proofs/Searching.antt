@@ -1,6 +1,6 @@
 -- A path is left, or a selection costs nothing: the nodes that are reached from the source grow until the one or the other is seen.
 use mathlib.Core.Path.{_≡_, refl, sym, ap, subst, _∙_}
-use mathlib.Core.Bool.{Bool, true, false, not, cond}
+use mathlib.Core.Bool.{Bool, true, false, cond}
 use mathlib.Core.List.{List, [], _∷_, _++_, map}
 use mathlib.Core.Logic.{_⊎_, inl, inr, ⊎-elim}
 use Prim.Native.Nat.{ℕ, zero, suc, _+_, _≤_, _<_}
@@ -12,14 +12,14 @@ use Rattle.std.proofs.shelf.Tests.{cases-eq, cases-lt, cases-bool, true≢false
 use Rattle.std.specs.declared.option.Option.{Option}
 use Rattle.std.specs.declared.option.Option.the-variants.{Some, None}
 use Rattle.std.specs.shelf.Lists.{All}
-use Rattle.std.specs.shelf.Maps.{nth}
 use Rattle.network.specs.declared.terminal.Terminal.the-variants.{Source, Sink}
 use Rattle.network.specs.Nets.{Ends, Net, Lawful, Distinct, at}
 use Rattle.network.specs.Cuts.{Selection, sum-below, node-cost, arc-cost, cost}
 use Rattle.network.specs.Paths.{Path, Chain, passed, last-node, Smallest, Augmenting}
 use Rattle.network.proofs.Sums.{sum-differs, sum-zero}
+use Rattle.network.proofs.Lists.{distinct-push, distinct-one, all-nth}
 use Rattle.network.proofs.Laws.{ends-are, head-there}
-use Rattle.network.proofs.Chains.{chain-push, passed-push, last-push, distinct-push, distinct-one}
+use Rattle.network.proofs.Chains.{chain-push, passed-push, last-push}
 
 -- a number below n at which f is positive, or f is 0 at each
 find : (n : ℕ) (f : ℕ → ℕ) → ((k : ℕ) × (k < n) × (0 < f k)) ⊎ ((k : ℕ) → k < n → f k ≡ 0)
@@ -32,7 +32,7 @@ find (suc n) f = ⊎-elim
     (find n f))
     (cases-lt 0 (f n))
 
-smallest : (x : ℕ) (xs : List ℕ) → (m : ℕ) × Smallest m (x ∷ xs)
+pub smallest : (x : ℕ) (xs : List ℕ) → (m : ℕ) × Smallest m (x ∷ xs)
 smallest x [] = (x, record { among = (0, omega arith, λ d. refl); least = (omega arith, tt) })
 smallest x (y ∷ ys) =
     let (m, s) = smallest y ys in
@@ -76,11 +76,6 @@ exit-found v R a some = by (v .graph .ends a) refl
           tail = grind (arith, cases-bool (R (e .tail)), cases-bool (R (e .head)));
           head = grind (arith, cases-bool (R (e .tail)), cases-bool (R (e .head)));
         }
-
-all-nth : (P : ℕ → Type 0) (xs : List ℕ) (k x : ℕ) → All P xs → nth xs k ≡ Some x → P x
-all-nth P [] k x all is = let z : _≡_ {A = ℕ} 0 1 = cc in absurd (omega arith)
-all-nth P (y ∷ xs) zero x all is = let same : y ≡ x = cc in subst P same (all .0)
-all-nth P (y ∷ xs) (suc k) x all is = all-nth P xs k x (all .1) is
 
 -- R with x in it
 abbrev joined : Selection → ℕ → Selection

@@ -1,5 +1,5 @@
-use Rattle.network.proofs.Carrying.{path-lowers, paths-lower, few-paths}
 use Rattle.network.proofs.Pigeons.{few-words}
+use Rattle.network.proofs.Carrying.{path-lowers, paths-lower, few-paths}
 use Rattle.network.proofs.Trails.{one-reading}
 use Rattle.network.proofs.theorems.paths_lower_every_cost.Needs as need
 
