@@ -1,0 +1,11 @@
+pub mod Neighbours
+pub mod Scanning
+pub mod Climbing
+pub mod Offers
+pub mod Freeing
+pub mod Logs
+pub mod Behind
+pub mod Augmenting
+pub mod Turns
+pub mod Outcomes
+pub mod Promises
