@@ -1,4 +1,6 @@
 // The order book: open while entries and needs come in, then sealed, over one borrowed table.
+#![tactic(auto)]
+
 mod entering;
 mod open;
 mod record;

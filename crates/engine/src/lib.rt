@@ -1,4 +1,6 @@
 // The calls that a user makes: the answer to a sheet, and the text that tells it.
+#![tactic(auto)]
+
 ghost use Rattle.std.specs.Prelude.{◌≡◌, IfOk, string_bytes, Result as Outcome};
 ghost use Rattle.engine.specs.Listings.{Listed, listing_text};
 ghost use Rattle.engine.specs.Plans.{Planned};

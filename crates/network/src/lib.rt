@@ -1,4 +1,6 @@
 // What a network is to those who search it: a trait with a meaning and laws.
+#![tactic(auto)]
+
 ghost use Rattle.std.specs.Prelude.{◌≡◌};
 ghost use Rattle.network.specs.Nets.{Net, Lawful};
 ghost use Rattle.network.specs.Answers.{terminal_answer, place_answer, ends_answer, residual_answer, take_answer, after_take, shift_answer, after_shift};

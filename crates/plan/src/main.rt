@@ -1,4 +1,6 @@
 // Reads a sheet from standard input, and prints the line that tells its answer.
+#![tactic(auto)]
+
 use anyhow::anyhow;
 use std::io::Read;
 

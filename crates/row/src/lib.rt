@@ -1,4 +1,6 @@
 // A row of cells, each joined to the next, over one borrowed slice: a small network.
+#![tactic(auto)]
+
 ghost use Rattle.row.specs.Rows.{AllCapped};
 
 mod calls;

@@ -1,4 +1,6 @@
 // The run: two search trees over any network, from the first path to the last.
+#![tactic(auto)]
+
 mod adoption;
 mod beginning;
 mod carrying;

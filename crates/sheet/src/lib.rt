@@ -1,4 +1,6 @@
 // The order sheet: what a sheet of bytes stands for, read where it lies.
+#![tactic(auto)]
+
 mod bytes;
 mod reading;
 mod records;

@@ -1,4 +1,6 @@
 // The two search trees, kept in a table with one record for each node.
+#![tactic(auto)]
+
 mod ring;
 mod work;
 
