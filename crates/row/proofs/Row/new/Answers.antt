@@ -14,8 +14,8 @@ loop-cell-preserved c = search (rules, map_over_more capped)
 whole : (before after : List Cell) (i : ℕ) → length before ≤ i → after ≡ map capped (take i before) ++ drop i before → after ≡ map capped before
 whole before after i past is = is ∙ simp (take_all, drop_all, append-nil)
 
-pub invariant-of-result : goal.invariant-of-result
-invariant-of-result c = (subst AllCapped (sym (whole _ _ _ c.loop-cell-test.false c.loop-cell.invariant)) (all_capped c.args.cells.now), tt)
+pub invariant_of-result : goal.invariant_of-result
+invariant_of-result c = (subst AllCapped (sym (whole _ _ _ c.loop-cell-test.false c.loop-cell.invariant)) (all_capped c.args.cells.now), tt)
 
 pub returns : goal.returns
 returns c = whole _ _ _ c.loop-cell-test.false c.loop-cell.invariant

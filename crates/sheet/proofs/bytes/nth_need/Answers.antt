@@ -9,7 +9,7 @@ returns-then-j-count c =
     let bs = c.args.sheet.now in
     let long = length_needs_at bs c.args.at c.args.count in
     let inside : c.args.j < length (needs_at bs c.args.at c.args.count) = omega (arith, c.if-j-count.true) in
-    let is = c.from.ensures ∙ c.need-at.ensures ∙ sym (get_or_needs_at bs c.args.at c.args.count c.args.j c.if-j-count.true) in
+    let is = c.from.ensures ∙ c.need_at.ensures ∙ sym (get_or_needs_at bs c.args.at c.args.count c.args.j c.if-j-count.true) in
     ap Some is ∙ sym (slice_get-get_or _ _ 0 inside)
 
 pub returns-else-j-count : goal.returns-else-j-count

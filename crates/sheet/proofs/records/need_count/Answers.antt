@@ -17,5 +17,5 @@ returns-in-7 c = omega (arith, need_bits c.args.map)
 pub returns-in-15 : goal.returns-in-15
 returns-in-15 c = omega (arith, need_bits c.args.map)
 
-pub returns-in-default : goal.returns-in-default
-returns-in-default c = λ run. let one = runs run.0 (few_needs c.args.map run.0 run.1) in omega (arith, need_bits c.args.map, run.1)
+pub returns-in_default : goal.returns-in_default
+returns-in_default c = λ run. let one = runs run.0 (few_needs c.args.map run.0 run.1) in omega (arith, need_bits c.args.map, run.1)

@@ -13,7 +13,7 @@ here : (c : After-from-need) → get_or (ns c) c.loop-j.j 0 ≡ c.from-need.resu
 unfolding ns
 here c =
     get_or_needs_at c.args.sheet.now c.args.found.now.needs c.args.found.now.count c.loop-j.j c.loop-j-test.true
-    ∙ sym c.need-at.ensures ∙ sym c.from-need.ensures
+    ∙ sym c.need_at.ensures ∙ sym c.from-need.ensures
 
 inside : (c : After-from-need) → c.loop-j.j < length (ns c)
 unfolding ns

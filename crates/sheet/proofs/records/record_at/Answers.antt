@@ -9,35 +9,35 @@ use Rattle.sheet.proofs.records.record_at.Goals.{After-layout-found}
 -- what `layout` laid is the record at the place
 found : (c : After-layout-found) → Laid c.args.sheet.now c.args.number c.args.at c.layout-found.result
 found c =
-    laid_is _ _ _ _ _ _ (λ k. (c.type-inv.sheet k).fits) c.requires c.if-number-ge-MOST-ENTRIES.false refl c.if-map-ge64.false
+    laid_is _ _ _ _ _ _ (λ k. (c.type_inv.sheet k).fits) c.requires c.if-number-ge-MOST_ENTRIES.false refl c.if-map-ge64.false
     c.in-Some.ensures.1 c.in-Some.ensures.0 c.layout-found.ensures
 
 pub returns-then-map-ge64 : goal.returns-then-map-ge64
-returns-then-map-ge64 c = high_bits c.args.sheet.now _ c.args.at c.if-number-ge-MOST-ENTRIES.false c.if-map-ge64.true
+returns-then-map-ge64 c = high_bits c.args.sheet.now _ c.args.at c.if-number-ge-MOST_ENTRIES.false c.if-map-ge64.true
 
-pub returns-in-default : goal.returns-in-default
-returns-in-default c = need_gap c.args.sheet.now _ c.args.at c.if-number-ge-MOST-ENTRIES.false c.if-map-ge64.false c.in-default.ensures
+pub returns-in_default : goal.returns-in_default
+returns-in_default c = need_gap c.args.sheet.now _ c.args.at c.if-number-ge-MOST_ENTRIES.false c.if-map-ge64.false c.in_default.ensures
 
 pub returns-then-found-sheet : goal.returns-then-found-sheet
 returns-then-found-sheet c =
     cut_short _ _ _ _ (found (goal.at.returns-then-found-sheet c).After-layout-found) c.if-found-sheet.true
 
-pub returns-then-not-amounts-in-range : goal.returns-then-not-amounts-in-range
-returns-then-not-amounts-in-range c =
-    amount_range _ _ _ _ (found (goal.at.returns-then-not-amounts-in-range c).After-layout-found) c.if-found-sheet.false
-    (λ both. false≢true (c.if-not-amounts-in-range.ensures.1 both))
+pub returns-then-not-amounts_in_range : goal.returns-then-not-amounts_in_range
+returns-then-not-amounts_in_range c =
+    amount_range _ _ _ _ (found (goal.at.returns-then-not-amounts_in_range c).After-layout-found) c.if-found-sheet.false
+    (λ both. false≢true (c.if-not-amounts_in_range.ensures.1 both))
 
-pub returns-then-not-needs-ordered : goal.returns-then-not-needs-ordered
-returns-then-not-needs-ordered c =
-    let amounts = c.if-not-amounts-in-range.ensures.0 refl in
-    need_order _ _ _ _ (found (goal.at.returns-then-not-needs-ordered c).After-layout-found) c.if-found-sheet.false amounts.0 amounts.1
-    (λ ordered. false≢true (c.if-not-needs-ordered.ensures.1 ordered))
+pub returns-then-not-needs_ordered : goal.returns-then-not-needs_ordered
+returns-then-not-needs_ordered c =
+    let amounts = c.if-not-amounts_in_range.ensures.0 refl in
+    need_order _ _ _ _ (found (goal.at.returns-then-not-needs_ordered c).After-layout-found) c.if-found-sheet.false amounts.0 amounts.1
+    (λ ordered. false≢true (c.if-not-needs_ordered.ensures.1 ordered))
 
 pub returns : goal.returns
 returns c =
     let bs = c.args.sheet.now in
     let from : Cursor = record { at = c.args.at; number = c.args.number } in
     let to : Cursor = record { at = c.layout-found.result.end; number = c.args.number + 1 } in
-    let amounts = c.if-not-amounts-in-range.ensures.0 refl in
-    let out = handed_out _ _ _ _ (found (goal.at.returns c).After-layout-found) c.if-found-sheet.false amounts.0 amounts.1 (c.if-not-needs-ordered.ensures.0 refl) in
+    let amounts = c.if-not-amounts_in_range.ensures.0 refl in
+    let out = handed_out _ _ _ _ (found (goal.at.returns c).After-layout-found) c.if-found-sheet.false amounts.0 amounts.1 (c.if-not-needs_ordered.ensures.0 refl) in
     (out, in_turn bs from to (Ok (Some c.layout-found.result)) out)

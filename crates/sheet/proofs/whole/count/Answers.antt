@@ -12,11 +12,11 @@ use Rattle.sheet.proofs.whole.count.Goals.{In-Some}
 -- the record that this turn was handed
 turn : (c : In-Some) → HandedOut c.args.sheet.now (cursor c.loop-found.reader) (cursor c.next.new.self) c.in-Some.found
 turn c =
-    handed_at c.args.sheet.now _ (cursor c.loop-found.reader) (cursor c.next.new.self) _ (Ok (Some c.in-Some.found)) c.loop-found.invariant.0 (ap Ok c.in-Some.is) c.in-ok-found.ensures.handed
+    handed_at c.args.sheet.now _ (cursor c.loop-found.reader) (cursor c.next.new.self) _ (Ok (Some c.in-Some.found)) c.loop-found.invariant.0 (ap Ok c.in-Some.is) c.in_ok-found.ensures.handed
 
-pub returns-then-is-empty : goal.returns-then-is-empty
-returns-then-is-empty c =
-    settled c.args.sheet.now (Err Empty) (nil_from_length c.args.sheet.now (true-eqb _ 0 c.if-is-empty.ensures))
+pub returns-then-is_empty : goal.returns-then-is_empty
+returns-then-is_empty c =
+    settled c.args.sheet.now (Err Empty) (nil_from_length c.args.sheet.now (true-eqb _ 0 c.if-is_empty.ensures))
 
 pub loop-found-init : goal.loop-found-init
 loop-found-init c =
@@ -27,19 +27,19 @@ loop-found-smaller c = turn_falls _ _ _ _ (turn (goal.at.loop-found-smaller c).I
 
 pub loop-found-preserved : goal.loop-found-preserved
 loop-found-preserved c = (
-  c.in-ok-found.ensures.sheet ∙ c.loop-found.invariant.0,
+  c.in_ok-found.ensures.sheet ∙ c.loop-found.invariant.0,
   subst (λ n. Counting c.args.sheet.now (cursor c.next.new.self) (c.loop-found.entries + 1) (c.loop-found.needs + n)) (sym c.from-needs.ensures)
       (counting_more _ _ _ _ _ _ c.loop-found.invariant.1 (turn (goal.at.loop-found-preserved c).In-Some)),
 )
 
-pub returns-in-err-found : goal.returns-in-err-found
-returns-in-err-found c =
-    let (x, is, same) = err_from_is_err_and c.from-residual.result c.from-residual.ensures.1 in
-    let told = handed_at c.args.sheet.now _ (cursor c.loop-found.reader) (cursor c.next.new.self) _ (Err c.in-err-found.field-0.0) c.loop-found.invariant.0 refl c.in-err-found.ensures.handed in
+pub returns-in_err-found : goal.returns-in_err-found
+returns-in_err-found c =
+    let (x, is, same) = err_from_is_err_and c.from_residual.result c.from_residual.ensures.1 in
+    let told = handed_at c.args.sheet.now _ (cursor c.loop-found.reader) (cursor c.next.new.self) _ (Err c.in_err-found.field-0.0) c.loop-found.invariant.0 refl c.in_err-found.ensures.handed in
     rw (is, same) (fault_answers _ _ _ _ _ c.loop-found.invariant.1.progress told)
 
 pub returns : goal.returns
 returns c =
-    let end = handed_at c.args.sheet.now _ (cursor c.loop-found.reader) (cursor c.next.new.self) _ (Ok None) c.loop-found.invariant.0 (ap Ok c.in-default.is) c.in-ok-found.ensures.handed in
-    let some : c.args.sheet.now ≡ [] → ⊥ = λ none. false-eqb _ 0 c.if-is-empty.ensures (ap length none) in
+    let end = handed_at c.args.sheet.now _ (cursor c.loop-found.reader) (cursor c.next.new.self) _ (Ok None) c.loop-found.invariant.0 (ap Ok c.in_default.is) c.in_ok-found.ensures.handed in
+    let some : c.args.sheet.now ≡ [] → ⊥ = λ none. false-eqb _ 0 c.if-is_empty.ensures (ap length none) in
     counting_done _ _ _ _ c.loop-found.invariant.1 some end.0

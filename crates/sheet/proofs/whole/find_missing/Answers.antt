@@ -12,7 +12,7 @@ use Rattle.sheet.proofs.whole.find_missing.Goals.{In-Some}
 -- the record that this turn was handed
 turn : (c : In-Some) → HandedOut c.args.sheet.now (cursor c.loop-found.reader) (cursor c.next.new.self) c.in-Some.found
 turn c =
-    handed_at c.args.sheet.now _ (cursor c.loop-found.reader) (cursor c.next.new.self) _ (Ok (Some c.in-Some.found)) c.loop-found.invariant.0 (ap Ok c.in-Some.is) c.in-ok-found.ensures.handed
+    handed_at c.args.sheet.now _ (cursor c.loop-found.reader) (cursor c.next.new.self) _ (Ok (Some c.in-Some.found)) c.loop-found.invariant.0 (ap Ok c.in-Some.is) c.in_ok-found.ensures.handed
 
 pub loop-found-init : goal.loop-found-init
 loop-found-init c =
@@ -23,24 +23,24 @@ loop-found-smaller c = turn_falls _ _ _ _ (turn (goal.at.loop-found-smaller c).I
 
 pub loop-found-preserved : goal.loop-found-preserved
 loop-found-preserved c =
-    let same = c.in-ok-found.ensures.sheet ∙ c.loop-found.invariant.0 in (
+    let same = c.in_ok-found.ensures.sheet ∙ c.loop-found.invariant.0 in (
       same,
-      checking_more _ _ _ _ _ c.loop-found.invariant.1 (turn (goal.at.loop-found-preserved c).In-Some) (subst (λ bs. There c.args.counts.entries (entry_at bs c.in-Some.found)) same (c.if-not-needs-there.ensures.0 refl)),
+      checking_more _ _ _ _ _ c.loop-found.invariant.1 (turn (goal.at.loop-found-preserved c).In-Some) (subst (λ bs. There c.args.counts.entries (entry_at bs c.in-Some.found)) same (c.if-not-needs_there.ensures.0 refl)),
     )
 
-pub returns-then-not-needs-there : goal.returns-then-not-needs-there
-returns-then-not-needs-there c =
-    let same = c.in-ok-found.ensures.sheet ∙ c.loop-found.invariant.0 in
-    checking_missing _ c.args.counts _ _ _ c.requires c.loop-found.invariant.1 (turn (goal.at.returns-then-not-needs-there c).In-Some)
-    (λ there. false≢true (c.if-not-needs-there.ensures.1 (subst (λ bs. There c.args.counts.entries (entry_at bs c.in-Some.found)) (sym same) there)))
+pub returns-then-not-needs_there : goal.returns-then-not-needs_there
+returns-then-not-needs_there c =
+    let same = c.in_ok-found.ensures.sheet ∙ c.loop-found.invariant.0 in
+    checking_missing _ c.args.counts _ _ _ c.requires c.loop-found.invariant.1 (turn (goal.at.returns-then-not-needs_there c).In-Some)
+    (λ there. false≢true (c.if-not-needs_there.ensures.1 (subst (λ bs. There c.args.counts.entries (entry_at bs c.in-Some.found)) (sym same) there)))
 
-pub returns-in-err-found : goal.returns-in-err-found
-returns-in-err-found c =
-    let (x, is, same) = err_from_is_err_and c.from-residual.result c.from-residual.ensures.1 in
-    let told = handed_at c.args.sheet.now _ (cursor c.loop-found.reader) (cursor c.next.new.self) _ (Err c.in-err-found.field-0.0) c.loop-found.invariant.0 refl c.in-err-found.ensures.handed in
+pub returns-in_err-found : goal.returns-in_err-found
+returns-in_err-found c =
+    let (x, is, same) = err_from_is_err_and c.from_residual.result c.from_residual.ensures.1 in
+    let told = handed_at c.args.sheet.now _ (cursor c.loop-found.reader) (cursor c.next.new.self) _ (Err c.in_err-found.field-0.0) c.loop-found.invariant.0 refl c.in_err-found.ensures.handed in
     rw (is, same) (fault_answers _ _ _ _ _ c.loop-found.invariant.1.progress told)
 
 pub returns : goal.returns
 returns c =
-    let end = handed_at c.args.sheet.now _ (cursor c.loop-found.reader) (cursor c.next.new.self) _ (Ok None) c.loop-found.invariant.0 (ap Ok c.in-default.is) c.in-ok-found.ensures.handed in
+    let end = handed_at c.args.sheet.now _ (cursor c.loop-found.reader) (cursor c.next.new.self) _ (Ok None) c.loop-found.invariant.0 (ap Ok c.in_default.is) c.in_ok-found.ensures.handed in
     checking_done _ c.args.counts _ c.requires c.loop-found.invariant.1 end.0

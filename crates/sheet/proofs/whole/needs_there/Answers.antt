@@ -11,9 +11,9 @@ use Rattle.sheet.proofs.whole.needs_there.Goals.{After-need}
 entry : After-need → Entry
 entry c = entry_at (sheet_of c.args.reader.now) c.args.found.now
 
-last : (c : After-need) → c.saturating-sub.result ≡ length (entry c).needs - 1
+last : (c : After-need) → c.saturating_sub.result ≡ length (entry c).needs - 1
 unfolding entry
-last c = omega (arith, c.saturating-sub.ensures, length_needs_at (sheet_of c.args.reader.now) c.args.found.now.needs c.args.found.now.count)
+last c = omega (arith, c.saturating_sub.ensures, length_needs_at (sheet_of c.args.reader.now) c.args.found.now.needs c.args.found.now.count)
 
 pub returns-in-None : goal.returns-in-None
 unfolding entry
