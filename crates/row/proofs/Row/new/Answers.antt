@@ -15,7 +15,7 @@ whole : (before after : List Cell) (i : ℕ) → length before ≤ i → after �
 whole before after i past is = is ∙ simp (take_all, drop_all, append-nil)
 
 pub invariant_of-result : goal.invariant_of-result
-invariant_of-result c = (subst AllCapped (sym (whole _ _ _ c.loop-cell-test.false c.loop-cell.invariant)) (all_capped c.args.cells.now), tt)
+invariant_of-result c = record { bounds = subst AllCapped (sym (whole _ _ _ c.loop-cell-test.false c.loop-cell.invariant)) (all_capped c.args.cells.now) }
 
 pub returns : goal.returns
 returns c = whole _ _ _ c.loop-cell-test.false c.loop-cell.invariant

@@ -10,8 +10,8 @@ use Rattle.search.proofs.adoption.adopt_one.Goals as goal
 pub free-requires : goal.free-requires
 free-requires g c =
     let v = g.N.Network.value c.args.net.now in
-    let found = c.find-parent.ensures in
-    let o = orphan_stays v (forest c.args.work.now) (forest c.find-parent.new.work) c.args.terminal c.args.node found.trees (record { trees = c.requires.trees; mine = c.requires.mine; alone = c.requires.alone }) in
+    let found = c.find_parent.ensures in
+    let o = orphan_stays v (forest c.args.work.now) (forest c.find_parent.new.work) c.args.terminal c.args.node found.trees (record { trees = c.requires.trees; mine = c.requires.mine; alone = c.requires.alone }) in
     record {
       trees = o.trees;
       kept = sound_is found.trees found.places refl c.requires.kept;
@@ -28,14 +28,14 @@ returns-in-Some g c =
     let u = c.args.node in
     let a = c.in-Some.offer.arc in
     let stage = c.args.stage in
-    let f = forest c.find-parent.new.work in
-    let found = c.find-parent.ensures in
+    let f = forest c.find_parent.new.work in
+    let found = c.find_parent.ensures in
     let o = orphan_stays v (forest c.args.work.now) f t u found.trees (record { trees = c.requires.trees; mine = c.requires.mine; alone = c.requires.alone }) in
     let offered = c.in-Some.ensures.found in
-    let is : forest c.set-stage.new.work ≡ with_stage (with_parent f u (Along a)) u stage = c.set-stage.ensures.trees ∙ ap (λ (x : Forest). with_stage x u stage) c.set-parent.ensures.trees in
+    let is : forest c.set_stage.new.work ≡ with_stage (with_parent f u (Along a)) u stage = c.set_stage.ensures.trees ∙ ap (λ (x : Forest). with_stage x u stage) c.set_parent.ensures.trees in
     record {
       trees = subst (Trees v) (sym is) (adopted_trees v f t u a stage (g.N.Network.lawful c.args.net.now) o offered);
-      kept = sound_is is (c.set-stage.ensures.places ∙ c.set-parent.ensures.places) refl (sound_is found.trees found.places refl c.requires.kept);
+      kept = sound_is is (c.set_stage.ensures.places ∙ c.set_parent.ensures.places) refl (sound_is found.trees found.places refl c.requires.kept);
       survey = subst (λ (x : Forest). Survey v x stage) (sym is) (adopted_survey v f t u a stage o offered found.survey);
       left = omega (arith, ap (adoption_left n) is, ap (adoption_left n) found.trees);
     }
@@ -43,7 +43,7 @@ returns-in-Some g c =
 pub returns-in-None : goal.returns-in-None
 returns-in-None g c =
     let n = (g.N.Network.value c.args.net.now).graph.nodes in
-    let found = c.find-parent.ensures in
+    let found = c.find_parent.ensures in
     let after = c.free.ensures in
     record {
       trees = after.trees;

@@ -4,8 +4,8 @@ use Rattle.trees.proofs.Adopting.{offer_stands}
 use Rattle.search.proofs.Offers.{inward_there, offers}
 use Rattle.search.proofs.adoption.ask.Goals as goal
 
-pub offset-bounds-work-next : goal.offset-bounds-work-next
-offset-bounds-work-next g c =
+pub offset_bounds-work-next : goal.offset_bounds-work-next
+offset_bounds-work-next g c =
     let l = g.N.Network.lawful c.args.net.now in
     let there = inward_there (g.N.Network.value c.args.net.now) c.args.terminal c.args.node c.args.next l c.requires.inward in
     omega (arith, l.graph.few_nodes)
@@ -14,8 +14,8 @@ pub bounds-work-next : goal.bounds-work-next
 bounds-work-next g c =
     subst (λ (n : ℕ). c.args.next.node < n) (sym c.requires.survey.size) (inward_there (g.N.Network.value c.args.net.now) c.args.terminal c.args.node c.args.next (g.N.Network.lawful c.args.net.now) c.requires.inward)
 
-pub distance-up-requires : goal.distance-up-requires
-distance-up-requires g c = record {
+pub distance_up-requires : goal.distance_up-requires
+distance_up-requires g c = record {
   survey = c.requires.survey;
   there = inward_there (g.N.Network.value c.args.net.now) c.args.terminal c.args.node c.args.next (g.N.Network.lawful c.args.net.now) c.requires.inward;
   mine = search rules;

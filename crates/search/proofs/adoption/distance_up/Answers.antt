@@ -10,8 +10,8 @@ returns-in-Root g c =
     let f = forest c.args.work.now in
     c.loop-steps.invariant.2 (anchored_root v.graph f.parent c.args.terminal c.loop-steps.at c.in-Root.is)
 
-pub near-end-at-requires : goal.near-end-at-requires
-near-end-at-requires g c =
+pub near_end-at-requires : goal.near_end-at-requires
+near_end-at-requires g c =
     let (there, mine, _) = c.loop-steps.invariant in
     let t = c.args.terminal in
     let u = c.loop-steps.at in
@@ -21,5 +21,5 @@ near-end-at-requires g c =
 pub loop-steps-preserved : goal.loop-steps-preserved
 loop-steps-preserved g c =
     let (there, mine, on) = c.loop-steps.invariant in
-    let step = step_up (g.N.Network.value c.args.net.now) (forest c.args.work.now) c.args.stage c.args.terminal c.loop-steps.at c.in-Along.arc c.near-end-at.result (g.N.Network.lawful c.args.net.now) c.requires.survey there mine c.in-Along.is c.near-end-at.ensures in
+    let step = step_up (g.N.Network.value c.args.net.now) (forest c.args.work.now) c.args.stage c.args.terminal c.loop-steps.at c.in-Along.arc c.near_end-at.result (g.N.Network.lawful c.args.net.now) c.requires.survey there mine c.in-Along.is c.near_end-at.ensures in
     (step.there, step.mine, λ anchored. on (step.below anchored))

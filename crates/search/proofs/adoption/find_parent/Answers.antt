@@ -4,7 +4,7 @@ use Rattle.trees.proofs.Adopting.{restaged_on}
 use Rattle.search.specs.Adoptions.{Found}
 use Rattle.search.proofs.Neighbours.{beside_few, beside_less}
 use Rattle.search.proofs.Offers.{beside_inward, found_stands, found_nearer}
-use Rattle.search.proofs.adoption.find_parent.Goals.{in-Some-ask, in-default-ask}
+use Rattle.search.proofs.adoption.find_parent.Goals.{in-Some-ask, in_default-ask}
 use Rattle.search.proofs.adoption.find_parent.Goals as goal
 
 pub ask-requires : goal.ask-requires
@@ -13,8 +13,8 @@ ask-requires g c = record {
   inward = beside_inward (g.N.Network.value c.args.net.now) c.args.terminal c.args.node c.loop-next.place c.in-Some.next (g.N.Network.lawful c.args.net.now) c.in-Some.ensures;
 }
 
-pub overflow-add-place : goal.overflow-add-place
-overflow-add-place g c =
+pub overflow_add-place : goal.overflow_add-place
+overflow_add-place g c =
     let few = beside_few (g.N.Network.value c.args.net.now).graph c.args.terminal c.args.node c.loop-next.place c.in-Some.next (g.N.Network.lawful c.args.net.now).graph c.requires.there c.in-Some.ensures in
     omega arith
 
@@ -37,6 +37,6 @@ loop-next-preserved g c =
       elim c.match-ask.branch [
         | in-Some-ask w ↦
             subst (Found v f' t u) (sym w.best-is) (found_nearer v f' t u c.loop-next.best w.nearer-best.result (record { arc = c.in-Some.next.inward; distance = w.in-Some-ask.distance }) w.nearer-best.ensures stands w.in-Some-ask.ensures.answer)
-        | in-default-ask w ↦ subst (Found v f' t u) (sym w.best-is) stands
+        | in_default-ask w ↦ subst (Found v f' t u) (sym w.best-is) stands
       ],
     )

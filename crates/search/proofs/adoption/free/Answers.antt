@@ -20,8 +20,8 @@ release-requires g c =
       kept = c.loop-next.invariant.1;
     }
 
-pub overflow-add-place : goal.overflow-add-place
-overflow-add-place g c =
+pub overflow_add-place : goal.overflow_add-place
+overflow_add-place g c =
     let few = beside_few (g.N.Network.value c.args.net.now).graph c.args.terminal c.args.node c.loop-next.place c.in-Some.next (g.N.Network.lawful c.args.net.now).graph c.requires.there c.in-Some.ensures in
     omega arith
 
@@ -44,11 +44,11 @@ returns g c =
     let (s, kept) = c.loop-next.invariant in
     let f = forest c.loop-next.work in
     let u = c.args.node in
-    let (trees, survey) = freeing_ends v c.args.terminal u c.loop-next.place (forest c.args.work.now) f (g.N.Network.lawful c.args.net.now) s c.in-default.ensures in
-    let is = c.set-tree.ensures.trees in
+    let (trees, survey) = freeing_ends v c.args.terminal u c.loop-next.place (forest c.args.work.now) f (g.N.Network.lawful c.args.net.now) s c.in_default.ensures in
+    let is = c.set_tree.ensures.trees in
     record {
       trees = subst (Trees v) (sym is) trees;
-      kept = sound_is is c.set-tree.ensures.places refl kept;
+      kept = sound_is is c.set_tree.ensures.places refl kept;
       survey = subst (SurveyKept v (forest c.args.work.now)) (sym is) survey;
       left = subst (λ (x : Forest). adoption_left n x < adoption_left n (forest c.args.work.now)) (sym is) (adoption_freed n u (forest c.args.work.now) f c.args.terminal c.requires.there s.same c.requires.mine);
     }

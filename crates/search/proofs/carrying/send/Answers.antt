@@ -17,7 +17,7 @@ disown-requires g c =
     let (e, is, _) = c.requires.onward in
     let tail = ap (λ (x : Ends). x.tail) (ends_are v.graph c.args.arc e is) in
     record {
-      there = omega (arith, c.near-end.ensures, tail, (g.N.Network.lawful c.args.net.now).graph.tail_there c.args.arc e is, c.requires.trees.size);
+      there = omega (arith, c.near_end.ensures, tail, (g.N.Network.lawful c.args.net.now).graph.tail_there c.args.arc e is, c.requires.trees.size);
       kept = c.requires.kept;
     }
 
@@ -26,9 +26,9 @@ disown-requires-then-residual-amount g c =
     let v = g.N.Network.value c.args.net.now in
     let (e, is, _) = c.requires.onward in
     let head = ap (λ (x : Ends). x.head) (ends_are v.graph c.args.arc e is) in
-    let size = ap (λ (f : Forest). f.size) c.disown.ensures.trees ∙ disowned_size (forest c.args.work.now) c.near-end.result c.args.arc in
+    let size = ap (λ (f : Forest). f.size) c.disown.ensures.trees ∙ disowned_size (forest c.args.work.now) c.near_end.result c.args.arc in
     record {
-      there = omega (arith, c.near-end-then-residual-amount.ensures, head, head_there v.graph c.args.arc e (g.N.Network.lawful c.args.net.now).graph is, size, c.requires.trees.size);
+      there = omega (arith, c.near_end-then-residual-amount.ensures, head, head_there v.graph c.args.arc e (g.N.Network.lawful c.args.net.now).graph is, size, c.requires.trees.size);
       kept = c.disown.ensures.kept;
     }
 
@@ -40,12 +40,12 @@ returns g c =
     let a = c.args.arc in
     let x = c.args.amount in
     let (e, is, onward) = c.requires.onward in
-    let value = c.shift-along.ensures in
-    let After : List Work → Queues → Type 0 = λ ws q. Trees (g.N.Network.value c.shift-along.new.net) (forest ws) × Kept ws q × Carries f (forest ws) in
+    let value = c.shift_along.ensures in
+    let After : List Work → Queues → Type 0 = λ ws q. Trees (g.N.Network.value c.shift_along.new.net) (forest ws) × Kept ws q × Carries f (forest ws) in
     let sent : After c.if-residual-amount.work c.if-residual-amount.queues = elim c.if-residual-amount.branch [
       | then-residual-amount w ↦
           let ends = ends_are v.graph a e is in
-          let bare = bared_is f _ _ a _ _ e w.disown.ensures.trees w.disown-then-residual-amount.ensures.trees (w.near-end.ensures ∙ ap (λ (y : Ends). y.tail) ends) (w.near-end-then-residual-amount.ensures ∙ ap (λ (y : Ends). y.head) ends) in
+          let bare = bared_is f _ _ a _ _ e w.disown.ensures.trees w.disown-then-residual-amount.ensures.trees (w.near_end.ensures ∙ ap (λ (y : Ends). y.tail) ends) (w.near_end-then-residual-amount.ensures ∙ ap (λ (y : Ends). y.head) ends) in
           let all = send_all v f a x e l c.requires.trees is onward c.requires.room in
           subst₂ After (sym w.work-is) (sym w.queues-is) (subst₂ Trees (sym value) (sym bare) all, w.disown-then-residual-amount.ensures.kept, subst (Carries f) (sym bare) (bared_same f a e))
       | else-residual-amount w ↦

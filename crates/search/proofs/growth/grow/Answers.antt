@@ -34,18 +34,18 @@ returns-in-Some-scan g c =
       kept = c.put.ensures.sound;
     }
 
-pub loop-node-smaller-in-default-scan : goal.loop-node-smaller-in-default-scan
-loop-node-smaller-in-default-scan g c =
+pub loop-node-smaller-in_default-scan : goal.loop-node-smaller-in_default-scan
+loop-node-smaller-in_default-scan g c =
     let v = g.N.Network.value c.args.net.now in
     let (there, queued, is) = c.in-Some.ensures.picked in
     let less = turn_left v (forest c.loop-node.work) (forest c.pick.new.work) c.in-Some.node c.loop-node.invariant.0 there queued is in
-    let more = c.in-default-scan.ensures.left in
+    let more = c.in_default-scan.ensures.left in
     omega arith
 
-pub loop-node-preserved-in-default-scan : goal.loop-node-preserved-in-default-scan
-loop-node-preserved-in-default-scan g c =
+pub loop-node-preserved-in_default-scan : goal.loop-node-preserved-in_default-scan
+loop-node-preserved-in_default-scan g c =
     let (_, _, is) = c.in-Some.ensures.picked in
-    let after = c.in-default-scan.ensures in (
+    let after = c.in_default-scan.ensures in (
       after.trees,
       after.kept,
       grows_on _ (forest c.pick.new.work) (forest c.scan.new.work) (grows_on _ (forest c.loop-node.work) (forest c.pick.new.work) c.loop-node.invariant.2 (waiting_grows _ _ c.in-Some.node false is)) after.grows,
@@ -64,16 +64,16 @@ loop-node-preserved g c =
     let f = forest c.loop-node.work in
     let f₁ = forest c.pick.new.work in
     let u = c.in-Some.node in (
-      free_sleeps v f₁ u (turn_trees v f f₁ Waiting u c.loop-node.invariant.0 is) c.in-default-tree.is,
+      free_sleeps v f₁ u (turn_trees v f f₁ Waiting u c.loop-node.invariant.0 is) c.in_default-tree.is,
       c.in-Some.ensures.sound,
       grows_on _ f f₁ c.loop-node.invariant.2 (waiting_grows f f₁ u false is),
     )
 
 pub returns : goal.returns
 returns g c =
-    let (is, none) = c.in-default.ensures.picked in
+    let (is, none) = c.in_default.ensures.picked in
     record {
       trees = subst (λ (f : Forest). Trees (g.N.Network.value c.args.net.now) f × Empty f Waiting) (sym is) (c.loop-node.invariant.0, none);
       grows = subst (Grows (forest c.args.work.now)) (sym is) c.loop-node.invariant.2;
-      kept = c.in-default.ensures.sound;
+      kept = c.in_default.ensures.sound;
     }

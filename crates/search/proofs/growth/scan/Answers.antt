@@ -8,8 +8,8 @@ use Rattle.search.proofs.Scanning.{Scanning, scanning_there, scanning_few, scann
 use Rattle.search.proofs.growth.scan.Goals.{then-residual-gt0+in-None, then-residual-gt0+in-Some-tree, else-residual-gt0}
 use Rattle.search.proofs.growth.scan.Goals as goal
 
-pub offset-bounds-work-next : goal.offset-bounds-work-next
-offset-bounds-work-next g c =
+pub offset_bounds-work-next : goal.offset_bounds-work-next
+offset_bounds-work-next g c =
     let few = scanning_few _ _ _ _ _ _ _ (g.N.Network.lawful c.args.net.now) c.loop-next.invariant.0 c.in-Some.ensures in
     omega arith
 
@@ -19,8 +19,8 @@ bounds-work-next g c = scanning_there _ _ _ _ _ _ _ (g.N.Network.lawful c.args.n
 pub join-requires : goal.join-requires
 join-requires g c = (scanning_there _ _ _ _ _ _ _ (g.N.Network.lawful c.args.net.now) c.loop-next.invariant.0 c.in-Some.ensures, c.loop-next.invariant.1)
 
-pub overflow-add-place : goal.overflow-add-place
-overflow-add-place g c =
+pub overflow_add-place : goal.overflow_add-place
+overflow_add-place g c =
     let few = beside_few (g.N.Network.value c.args.net.now).graph c.args.terminal c.args.node c.loop-next.place c.in-Some.next (g.N.Network.lawful c.args.net.now).graph c.requires.there c.in-Some.ensures in
     omega arith
 
@@ -51,7 +51,7 @@ pub returns : goal.returns
 returns g c =
     let s = c.loop-next.invariant.0 in
     record {
-      trees = scanning_ends _ _ _ _ _ (forest c.loop-next.work) (g.N.Network.lawful c.args.net.now) s c.in-default.ensures;
+      trees = scanning_ends _ _ _ _ _ (forest c.loop-next.work) (g.N.Network.lawful c.args.net.now) s c.in_default.ensures;
       grows = s.grows;
       kept = c.loop-next.invariant.1;
       left = s.left;

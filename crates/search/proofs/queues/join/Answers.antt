@@ -6,11 +6,11 @@ use Rattle.search.proofs.queues.join.Goals as goal
 
 pub put-requires : goal.put-requires
 put-requires c =
-    let hung = c.set-parent.ensures.trees ∙ ap (λ (f : Forest). with_parent f c.args.node c.args.parent) c.set-tree.ensures.trees in
-    (omega arith, sound_is hung (c.set-parent.ensures.places ∙ c.set-tree.ensures.places) refl c.requires.1)
+    let hung = c.set_parent.ensures.trees ∙ ap (λ (f : Forest). with_parent f c.args.node c.args.parent) c.set_tree.ensures.trees in
+    (omega arith, sound_is hung (c.set_parent.ensures.places ∙ c.set_tree.ensures.places) refl c.requires.1)
 
 pub returns : goal.returns
 returns c =
     let u = c.args.node in
-    let hung = c.set-parent.ensures.trees ∙ ap (λ (f : Forest). with_parent f u c.args.parent) c.set-tree.ensures.trees in
+    let hung = c.set_parent.ensures.trees ∙ ap (λ (f : Forest). with_parent f u c.args.parent) c.set_tree.ensures.trees in
     record { trees = c.put.ensures.trees ∙ ap (λ (f : Forest). with_queued f Waiting u true) hung; sound = c.put.ensures.sound }

@@ -5,7 +5,7 @@ use Rattle.trees.proofs.Queueing.{sound_is}
 use Rattle.search.proofs.queues.orphan.Goals as goal
 
 pub put-requires : goal.put-requires
-put-requires c = (omega arith, sound_is c.set-parent.ensures.trees c.set-parent.ensures.places refl c.requires.1)
+put-requires c = (omega arith, sound_is c.set_parent.ensures.trees c.set_parent.ensures.places refl c.requires.1)
 
 pub returns : goal.returns
-returns c = record { trees = c.put.ensures.trees ∙ ap (λ (f : Forest). with_queued f Orphans c.args.node true) c.set-parent.ensures.trees; sound = c.put.ensures.sound }
+returns c = record { trees = c.put.ensures.trees ∙ ap (λ (f : Forest). with_queued f Orphans c.args.node true) c.set_parent.ensures.trees; sound = c.put.ensures.sound }

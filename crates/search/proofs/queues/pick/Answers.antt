@@ -22,12 +22,12 @@ returns c =
     let count_is = ap (λ (r : Ring). r.count) c.ring-ring.ensures in
     let not_empty = c.if-ring-eq0.false in
     let some : 0 < (ring_of l q).count = omega arith in
-    let place_is : c.place-after.result ≡ wrap n ((ring_of l q).head + 0) = c.place-after.ensures ∙ ap (λ (r : Ring). wrap n (r.head + 0)) c.ring-ring.ensures in
+    let place_is : c.place_after.result ≡ wrap n ((ring_of l q).head + 0) = c.place_after.ensures ∙ ap (λ (r : Ring). wrap n (r.head + 0)) c.ring-ring.ensures in
     let first = slots ws l (wrap n ((ring_of l q).head + 0)) in
     let is : u ≡ first = ap (λ (s : Slot). s.node) c.slot-slot.ensures ∙ ap (slots ws l) place_is in
-    let rings = c.with-ring.ensures ∙ ap (λ x. put_ring l (record { head = x; count = c.ring-ring.result.count - 1 }) q) c.place-after-head.ensures ∙ ap (λ (r : Ring). put_ring l (shorter n r) q) c.ring-ring.ensures in
-    let trees = c.set-queued.ensures.trees in
+    let rings = c.with_ring.ensures ∙ ap (λ x. put_ring l (record { head = x; count = c.ring-ring.result.count - 1 }) q) c.place_after-head.ensures ∙ ap (λ (r : Ring). put_ring l (shorter n r) q) c.ring-ring.ensures in
+    let trees = c.set_queued.ensures.trees in
     record {
       picked = (subst (λ x. x < n) (sym is) ((c.requires l).there 0 some), subst (λ x. (forest ws).queued l x ≡ true) (sym is) ((c.requires l).marked 0 some), trees);
-      sound = sound_is (trees ∙ ap (λ x. with_queued (forest ws) l x false) is) c.set-queued.ensures.places rings (sound_picked (forest ws) (slots ws) q l c.requires some);
+      sound = sound_is (trees ∙ ap (λ x. with_queued (forest ws) l x false) is) c.set_queued.ensures.places rings (sound_picked (forest ws) (slots ws) q l c.requires some);
     }

@@ -10,6 +10,6 @@ returns c =
     let ws = c.args.work.now in
     let u = c.args.place in
     record {
-      trees = ap (λ (w : Work). forest (set ws u w)) c.with-slot.ensures ∙ forest_node ws u _ _ c.requires (ap (λ (s : Slot). s.queued) c.slot-slot.ensures);
-      places = ap (λ (w : Work). slots (set ws u w)) c.with-slot.ensures ∙ slots_node ws u _ _ c.requires;
+      trees = ap (λ (w : Work). forest (set ws u w)) c.with_slot.ensures ∙ forest_node ws u _ _ c.requires (ap (λ (s : Slot). s.queued) c.slot-slot.ensures);
+      places = ap (λ (w : Work). slots (set ws u w)) c.with_slot.ensures ∙ slots_node ws u _ _ c.requires;
     }

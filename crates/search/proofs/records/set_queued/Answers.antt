@@ -10,6 +10,6 @@ returns c =
     let ws = c.args.work.now in
     let u = c.args.node in
     record {
-      trees = ap (λ (w : Work). forest (set ws u w)) c.with-slot.ensures ∙ forest_queued ws u _ _ c.requires;
-      places = ap (λ (w : Work). slots (set ws u w)) c.with-slot.ensures ∙ slots_queued ws u _ _ c.requires (ap (λ (s : Slot). s.node) c.slot-slot.ensures);
+      trees = ap (λ (w : Work). forest (set ws u w)) c.with_slot.ensures ∙ forest_queued ws u _ _ c.requires;
+      places = ap (λ (w : Work). slots (set ws u w)) c.with_slot.ensures ∙ slots_queued ws u _ _ c.requires (ap (λ (s : Slot). s.node) c.slot-slot.ensures);
     }

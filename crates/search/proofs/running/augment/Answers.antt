@@ -6,15 +6,15 @@ use Rattle.search.specs.declared.report.Log.{Log}
 use Rattle.search.proofs.Augmenting.{read_is, read_last, traced_few, traced_small, log_traced, trail_traced}
 use Rattle.search.proofs.running.augment.Goals as goal
 
-pub overflow-add-from-2 : goal.overflow-add-from-2
-overflow-add-from-2 g c =
+pub overflow_add-from-2 : goal.overflow_add-from-2
+overflow_add-from-2 g c =
     let (p, t) = c.trace-path.ensures in
     let few = traced_few _ _ _ _ c.trace-path.result p (g.N.Network.lawful c.args.net.now) t in
     let room = c.requires.room in
     search rules
 
-pub slice-bounds-carry-end : goal.slice-bounds-carry-end
-slice-bounds-carry-end g c =
+pub slice_bounds-carry-end : goal.slice_bounds-carry-end
+slice_bounds-carry-end g c =
     let (p, t) = c.trace-path.ensures in
     let few = traced_few _ _ _ _ c.trace-path.result p (g.N.Network.lawful c.args.net.now) t in
     let room = c.requires.room in

@@ -9,12 +9,12 @@ plant-requires g c =
     let nodes = logged_nodes _ _ _ _ _ (g.N.Network.lawful c.args.net.now) c.start.ensures.logged in
     record {
       cleared = c.clear.ensures ∙ ap cleared (c.requires ∙ sym nodes);
-      kept = sound_is c.clear.ensures refl c.no-queues-queues.ensures (sound_cleared _ (slots c.clear.new.work));
+      kept = sound_is c.clear.ensures refl c.no_queues-queues.ensures (sound_cleared _ (slots c.clear.new.work));
       apart = c.if-not-start.ensures.started;
     }
 
-pub search-on-outcome-requires : goal.search-on-outcome-requires
-search-on-outcome-requires g c =
+pub search_on-outcome-requires : goal.search_on-outcome-requires
+search_on-outcome-requires g c =
     let v = g.N.Network.value c.start.new.net in
     let l = g.N.Network.lawful c.args.net.now in
     let (ps, logged) = c.start.ensures.logged in

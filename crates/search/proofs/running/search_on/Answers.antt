@@ -3,8 +3,8 @@ use Rattle.trees.specs.Forests.{forest}
 use Rattle.search.proofs.Turns.{grown_settled, bridge_pauses, ended, steps_more, bounded_more, nodes_more, cost_falls, words_more, paths_more}
 use Rattle.search.proofs.running.search_on.Goals as goal
 
-pub returns-then-is-short : goal.returns-then-is-short
-returns-then-is-short g c =
+pub returns-then-is_short : goal.returns-then-is_short
+returns-then-is_short g c =
     let v = g.N.Network.value c.loop-bridge.net in
     let f = forest c.grow.new.work in
     let (turn, _) = c.loop-bridge.invariant in
@@ -12,7 +12,7 @@ returns-then-is-short g c =
     let settled = grown_settled v (forest c.loop-bridge.work) f turn.settled grown.grows grown.trees.0 in
     record {
       steps = turn.steps;
-      searched = bridge_pauses v f c.in-Some.bridge c.loop-bridge.trail c.loop-bridge.log (g.N.Network.lawful c.loop-bridge.net) settled grown.trees.1 (omega (arith, c.if-is-short.ensures, c.node-count-count.ensures, turn.nodes, turn.words));
+      searched = bridge_pauses v f c.in-Some.bridge c.loop-bridge.trail c.loop-bridge.log (g.N.Network.lawful c.loop-bridge.net) settled grown.trees.1 (omega (arith, c.if-is_short.ensures, c.node_count-count.ensures, turn.nodes, turn.words));
     }
 
 pub augment-requires : goal.augment-requires
@@ -24,7 +24,7 @@ augment-requires g c =
       trees = grown_settled v (forest c.loop-bridge.work) (forest c.grow.new.work) turn.settled grown.grows grown.trees.0;
       kept = grown.kept;
       bridge = grown.trees.1;
-      room = omega (arith, c.if-is-short.ensures, c.node-count-count.ensures, turn.nodes, turn.words);
+      room = omega (arith, c.if-is_short.ensures, c.node_count-count.ensures, turn.nodes, turn.words);
       bounded = turn.bounded;
     }
 
@@ -67,7 +67,7 @@ returns g c =
     let v = g.N.Network.value c.loop-bridge.net in
     let f = forest c.grow.new.work in
     let (turn, _) = c.loop-bridge.invariant in
-    let grown = c.in-default.ensures in
+    let grown = c.in_default.ensures in
     record {
       steps = turn.steps;
       searched = ended v f (g.N.Network.lawful c.loop-bridge.net) (grown_settled v (forest c.loop-bridge.work) f turn.settled grown.grows grown.trees.0) grown.trees.1;

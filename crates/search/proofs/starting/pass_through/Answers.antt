@@ -14,7 +14,7 @@ returns g c =
     let trail = c.args.trail.now in
     let n = c.args.log.now.words in
     let least = c.requires.least in
-    let second : g.N.Network.value c.take-from-2.new.net ≡ taken (taken v Source u x) Sink u x = c.take-from-2.ensures ∙ ap (λ (w : Net). taken w Sink u x) c.take-from.ensures in
+    let second : g.N.Network.value c.take_from-2.new.net ≡ taken (taken v Source u x) Sink u x = c.take_from-2.ensures ∙ ap (λ (w : Net). taken w Sink u x) c.take_from.ensures in
     let long : 3 ≤ length (take (length trail - n) (drop n trail)) = omega (arith, ap length (take_rest trail n), length-drop n trail, c.requires.room) in
     record {
       augmenting = single v u x c.requires.there c.requires.some least;

@@ -8,8 +8,8 @@ use Rattle.search.proofs.tracing.climb.Goals as goal
 pub loop-hop-init : goal.loop-hop-init
 loop-hop-init g c = rising_none (g.N.Network.value c.args.net.now) (forest c.args.work.now) c.args.terminal c.args.node c.args.arcs.now
 
-pub step-up-requires : goal.step-up-requires
-step-up-requires g c =
+pub step_up-requires : goal.step_up-requires
+step_up-requires g c =
     let v = g.N.Network.value c.args.net.now in
     let (there, in_tree) = climb_stays v (forest c.args.work.now) c.args.terminal c.args.node c.loop-hop.at c.loop-hop.invariant.arcs (g.N.Network.lawful c.args.net.now) c.requires.trees.trees c.requires.there c.requires.tree c.loop-hop.invariant.climb in
     record { trees = c.requires.trees; there = there; tree = in_tree }
@@ -20,14 +20,14 @@ room g c =
     let less : c.loop-hop.steps < length c.args.arcs.now = rising_fits (g.N.Network.value c.args.net.now) (forest c.args.work.now) c.args.terminal c.args.node c.args.arcs.now c.loop-hop.arcs c.loop-hop.steps c.loop-hop.at c.in-Some.hop c.requires.room c.in-Some.ensures c.loop-hop.invariant in
     omega arith
 
-pub offset-bounds-arcs-steps : goal.offset-bounds-arcs-steps
-offset-bounds-arcs-steps g c = let less = room g c in search rules
+pub offset_bounds-arcs-steps : goal.offset_bounds-arcs-steps
+offset_bounds-arcs-steps g c = let less = room g c in search rules
 
 pub bounds-arcs-steps : goal.bounds-arcs-steps
 bounds-arcs-steps g c = room g c
 
-pub overflow-add-steps : goal.overflow-add-steps
-overflow-add-steps g c = let less = room g c in search rules
+pub overflow_add-steps : goal.overflow_add-steps
+overflow_add-steps g c = let less = room g c in search rules
 
 pub loop-hop-smaller : goal.loop-hop-smaller
 loop-hop-smaller g c = let less = room g c in search rules
@@ -36,4 +36,4 @@ pub loop-hop-preserved : goal.loop-hop-preserved
 loop-hop-preserved g c = rising_more (g.N.Network.value c.args.net.now) (forest c.args.work.now) c.args.terminal c.args.node c.args.arcs.now c.loop-hop.arcs c.loop-hop.steps c.loop-hop.at c.in-Some.hop c.requires.room c.in-Some.ensures c.loop-hop.invariant
 
 pub returns : goal.returns
-returns g c = rising_ends (g.N.Network.value c.args.net.now) (forest c.args.work.now) c.args.terminal c.args.node c.args.arcs.now c.loop-hop.arcs c.loop-hop.steps c.loop-hop.at c.in-default.ensures c.loop-hop.invariant
+returns g c = rising_ends (g.N.Network.value c.args.net.now) (forest c.args.work.now) c.args.terminal c.args.node c.args.arcs.now c.loop-hop.arcs c.loop-hop.steps c.loop-hop.at c.in_default.ensures c.loop-hop.invariant

@@ -5,15 +5,15 @@ use Rattle.trees.proofs.Climbs.{not_lost, branch_there}
 use Rattle.search.proofs.Climbing.{hung_from}
 use Rattle.search.proofs.tracing.step_up.Goals as goal
 
-pub near-end-requires : goal.near-end-requires
-near-end-requires g c =
+pub near_end-requires : goal.near_end-requires
+near_end-requires g c =
     let t = c.args.terminal in
     let u = c.args.node in
     let a = c.in-Along.arc in
     branch_there (g.N.Network.value c.args.net.now) (forest c.args.work.now) t u a (c.requires.trees.trees.parents t u a c.requires.there c.requires.tree c.in-Along.is)
 
 pub returns-in-Along : goal.returns-in-Along
-returns-in-Along g c = hung_from (g.N.Network.value c.args.net.now) (forest c.args.work.now) c.args.terminal c.args.node c.in-Along.arc c.near-end.result c.requires.trees c.requires.there c.requires.tree c.in-Along.is c.near-end.ensures
+returns-in-Along g c = hung_from (g.N.Network.value c.args.net.now) (forest c.args.work.now) c.args.terminal c.args.node c.in-Along.arc c.near_end.result c.requires.trees c.requires.there c.requires.tree c.in-Along.is c.near_end.ensures
 
 pub returns-in-Root : goal.returns-in-Root
 returns-in-Root g c =

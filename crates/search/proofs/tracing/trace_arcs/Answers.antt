@@ -13,8 +13,8 @@ descend-below-requires g c =
     let v = g.N.Network.value c.args.net.now in
     let l = g.N.Network.lawful c.args.net.now in
     let f = forest c.args.work.now in
-    let tail = c.near-end-tail.result in
-    let is = c.near-end-tail.ensures in
+    let tail = c.near_end-tail.result in
+    let is = c.near_end-tail.ensures in
     record {
       trees = c.requires.trees;
       there = end_there v f Source c.args.bridge tail l c.requires.bridge is;
@@ -27,18 +27,18 @@ climb-above-requires g c =
     let v = g.N.Network.value c.args.net.now in
     let l = g.N.Network.lawful c.args.net.now in
     let f = forest c.args.work.now in
-    let head = c.near-end-head.result in
-    let is = c.near-end-head.ensures in
+    let head = c.near_end-head.result in
+    let is = c.near_end-head.ensures in
     record {
       trees = c.requires.trees;
       there = end_there v f Sink c.args.bridge head l c.requires.bridge is;
       tree = end_tree v f Sink c.args.bridge head c.requires.bridge is;
-      room = ascent_fits v f c.args.bridge c.near-end-tail.result head _ c.args.arcs.now c.descend-below.new.arcs c.descend-below.result l c.requires.trees c.requires.bridge c.near-end-tail.ensures is c.descend-below.ensures.written (search rules);
+      room = ascent_fits v f c.args.bridge c.near_end-tail.result head _ c.args.arcs.now c.descend-below.new.arcs c.descend-below.result l c.requires.trees c.requires.bridge c.near_end-tail.ensures is c.descend-below.ensures.written (search rules);
     }
 
-pub overflow-add-result-2 : goal.overflow-add-result-2
-overflow-add-result-2 g c =
-    let short = crossing_short _ _ _ _ _ _ _ _ _ _ _ (g.N.Network.lawful c.args.net.now) c.requires.trees c.requires.bridge c.near-end-tail.ensures c.near-end-head.ensures c.descend-below.ensures.written c.climb-above.ensures in
+pub overflow_add-result-2 : goal.overflow_add-result-2
+overflow_add-result-2 g c =
+    let short = crossing_short _ _ _ _ _ _ _ _ _ _ _ (g.N.Network.lawful c.args.net.now) c.requires.trees c.requires.bridge c.near_end-tail.ensures c.near_end-head.ensures c.descend-below.ensures.written c.climb-above.ensures in
     search rules
 
 pub returns : goal.returns
@@ -49,11 +49,11 @@ returns g c =
     let s = c.descend-below.result.0 in
     let (xs, down, written) = c.descend-below.ensures.written in
     let (ys, up, more) = c.climb-above.ensures in
-    let short = tail_short v (forest c.args.work.now) a c.near-end-tail.result c.descend-below.result.1 xs (g.N.Network.lawful c.args.net.now) c.requires.trees c.requires.bridge c.near-end-tail.ensures down.climb in
+    let short = tail_short v (forest c.args.work.now) a c.near_end-tail.result c.descend-below.result.1 xs (g.N.Network.lawful c.args.net.now) c.requires.trees c.requires.bridge c.near_end-tail.ensures down.climb in
     let over_bridge = written_push before c.descend-below.new.arcs (reverse xs) s a (down.count ∙ sym (length-reverse xs)) (omega (arith, down.count)) written in
     let all = written_part before (set c.descend-below.new.arcs s a) c.climb-above.new.arcs (reverse xs ++ a ∷ []) ys (s + 1) (omega (arith, length_push (reverse xs) a, length-reverse xs, down.count)) over_bridge more in (
       over xs a ys,
       omega (arith, over_length xs a ys, down.count, up.count),
-      crossed v (forest c.args.work.now) a c.near-end-tail.result c.near-end-head.result c.descend-below.result c.climb-above.result xs ys (g.N.Network.lawful c.args.net.now) c.requires.trees c.requires.bridge c.near-end-tail.ensures c.near-end-head.ensures down up,
+      crossed v (forest c.args.work.now) a c.near_end-tail.result c.near_end-head.result c.descend-below.result c.climb-above.result xs ys (g.N.Network.lawful c.args.net.now) c.requires.trees c.requires.bridge c.near_end-tail.ensures c.near_end-head.ensures down up,
       subst (Written before _) (append_assoc (reverse xs) (a ∷ []) ys) all,
     )
