@@ -1,5 +1,5 @@
 // The paths of single nodes, which a run carries out first, and the log of paths.
-ghost use Rattle.std.specs.Prelude.{◌≡◌, ◌+◌, ◌^◌, ◌<◌, ◌≤◌, min, length, if◌then◌else◌};
+ghost use Rattle.std.specs.Prelude.{◌≡◌, ◌+◌, ◌^◌, ◌<◌, ◌≤◌, min, length, cond};
 ghost use Rattle.network.specs.declared.terminal.Terminal.TheVariants.{Source, Sink};
 ghost use Rattle.search.specs.Trails.{no_log, Bounded, Further, node_path, SomeLogged, Started};
 
@@ -38,7 +38,7 @@ impl Log {
 pub(crate) fn is_short(length: usize, used: usize, nodes: usize) -> bool
     requires used { used ≤ length }
     requires nodes { nodes ≤ 4096 }
-    ensures { if result then (length < used + (nodes + 2)) else (used + (nodes + 2) ≤ length) }
+    ensures { cond result (length < used + (nodes + 2)) (used + (nodes + 2) ≤ length) }
 {
     length - used < nodes + 2
 }

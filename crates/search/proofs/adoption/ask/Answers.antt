@@ -26,11 +26,11 @@ remember-requires g c = record {
   survey = c.requires.survey;
   there = inward_there (g.N.Network.value c.args.net.now) c.args.terminal c.args.node c.args.next (g.N.Network.lawful c.args.net.now) c.requires.inward;
   mine = search rules;
-  anchored = c.in-ok-distance.ensures;
+  anchored = c.in_ok-distance-in-Some.ensures;
 }
 
-pub returns-in-ok-distance : goal.returns-in-ok-distance
-returns-in-ok-distance g c =
+pub returns-in_ok-distance-in-Some : goal.returns-in_ok-distance-in-Some
+returns-in_ok-distance-in-Some g c =
     let v = g.N.Network.value c.args.net.now in
     let f = forest c.args.work.now in
     let h = c.args.next in
@@ -39,7 +39,7 @@ returns-in-ok-distance g c =
     let some : 0 < v.residual h.inward = omega (arith, c.residual.ensures, c.if-residual-eq0.false) in
     let after = c.remember.ensures in
     record {
-      answer = offer_stands v f (forest c.remember.new.work) t c.args.node h.inward after.trees (offers v f t c.args.node h c.requires.inward some mine c.in-ok-distance.ensures);
+      answer = offer_stands v f (forest c.remember.new.work) t c.args.node h.inward after.trees (offers v f t c.args.node h c.requires.inward some mine c.in_ok-distance-in-Some.ensures);
       survey = after.survey;
       trees = after.trees;
       places = after.places;
