@@ -3,7 +3,7 @@ use Rattle.std.proofs.Common.{◌≡◌, ℕ, ◌+◌, ◌<◌, Bool, true, cond
 use Rattle.std.proofs.lemmas.Bool.{ltb-false, both_ways}
 use Rattle.std.specs.List.{slice_get}
 use Rattle.network.specs.declared.terminal.Terminal.{Terminal}
-use Rattle.network.specs.Nets.{Ends, Net, Lawful, at, reversed}
+use Rattle.network.specs.Nets.{Ends, Net, Lawful, reversed}
 use Rattle.network.specs.Sides.{near, far}
 use Rattle.network.proofs.Laws.{near_reversed, far_reversed}
 use Rattle.trees.specs.declared.work.Lane.{Lane}

@@ -1,5 +1,5 @@
 -- Tracing a path: the climbs from the two ends of a bridge, and what is written of the path.
-use Rattle.std.specs.Prelude.{◌≡◌, ℕ, List, [], length, Some, None, Option}
+use Rattle.std.specs.Prelude.{◌≡◌, ℕ, List, length, Some, None, Option}
 use Rattle.network.specs.declared.terminal.Terminal.{Terminal}
 use Rattle.network.specs.Nets.{Ends, Graph, Net}
 use Rattle.network.specs.Paths.{Path, last_node, Augmenting, path_words}

@@ -3,7 +3,7 @@ use Rattle.std.proofs.Common.{◌≡◌, ℕ, ◌-◌, ◌<◌, ◌≤◌, true,
 use Rattle.std.proofs.lemmas.Bool.{cases_eq}
 use Rattle.network.specs.declared.terminal.Terminal.{Terminal}
 use Rattle.network.specs.declared.terminal.Terminal.TheVariants.{Source, Sink}
-use Rattle.network.specs.Nets.{Ends, Net, Lawful, at, reversed, taken, shifted}
+use Rattle.network.specs.Nets.{Ends, Net, Lawful, reversed, taken, shifted}
 use Rattle.network.specs.Sides.{near, far}
 use Rattle.network.proofs.Laws.{one_ends, residuals, taken_le}
 use Rattle.trees.specs.declared.work.Lane.TheVariants.{Orphans}

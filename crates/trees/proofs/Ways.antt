@@ -1,5 +1,5 @@
 -- The loop that sends an amount along the arcs of a way: what holds before each arc.
-use Rattle.std.proofs.Common.{◌≡◌, ℕ, suc, ◌+◌, ◌<◌, ◌≤◌, List, [], ◌∷◌, length, get_or, drop, sym, refl, ap, ◌∙◌, subst}
+use Rattle.std.proofs.Common.{◌≡◌, ℕ, suc, ◌+◌, ◌<◌, ◌≤◌, List, ◌∷◌, length, get_or, drop, sym, refl, ap, ◌∙◌, subst}
 use Rattle.std.proofs.lemmas.List.{drop_all, drop_more}
 use Rattle.network.specs.Nets.{Ends, Net, Lawful, Distinct, shifted}
 use Rattle.network.specs.Paths.{Path, passed, Augmenting, shifted_along}
