@@ -1,6 +1,6 @@
 -- Lists that are made from the numbers below a bound.
 use Rattle.std.proofs.Common.{◌≡◌, ℕ, zero, suc, ◌+◌, ◌*◌, ◌<◌, ◌≤◌, Bool, true, false, cond, List, [], ◌∷◌, ◌++◌, map, length, filter, refl, ap, ◌∙◌, arith}
-use Rattle.std.specs.List.{range_with_len, AllByRecursion as All}
+use Rattle.std.specs.List.{range_with_len, AllByRecursion}
 use Rattle.std.proofs.lemmas.List.FromFn.{map-range_with_len_more, filter_of_map_range_with_len_more}
 use Rattle.std.proofs.lemmas.List.{map-id}
 
@@ -31,19 +31,19 @@ kept_more p n =
     simp map-id at more
 
 -- where nothing passes, nothing is kept
-pub kept_none : {A : Type 0} (p : A → Bool) (xs : List A) → All (λ x. p x ≡ false) xs → filter p xs ≡ []
+pub kept_none : {A : Type 0} (p : A → Bool) (xs : List A) → AllByRecursion (λ x. p x ≡ false) xs → filter p xs ≡ []
 kept_none p [] none = refl
 kept_none p (x ∷ xs) (here, rest) = rw here (kept_none p xs rest)
 
 -- what holds of every number below the bound holds of each that is made from one
-all_from : {A : Type 0} (P : A → Type 0) (f : ℕ → A) (a n : ℕ) → ((k : ℕ) → k < a + n → P (f k)) → All P (map f (range_with_len a n))
+all_from : {A : Type 0} (P : A → Type 0) (f : ℕ → A) (a n : ℕ) → ((k : ℕ) → k < a + n → P (f k)) → AllByRecursion P (map f (range_with_len a n))
 all_from P f a zero each = tt
 all_from P f a (suc n) each = (each a (omega arith), all_from P f (a + 1) n (λ k h. each k (omega arith)))
 
-pub all_map_counting : {A : Type 0} (P : A → Type 0) (f : ℕ → A) (n : ℕ) → ((k : ℕ) → k < n → P (f k)) → All P (map f (range_with_len 0 n))
+pub all_map_counting : {A : Type 0} (P : A → Type 0) (f : ℕ → A) (n : ℕ) → ((k : ℕ) → k < n → P (f k)) → AllByRecursion P (map f (range_with_len 0 n))
 all_map_counting P f n each = all_from P f 0 n (λ k h. each k (omega arith))
 
-pub all_counting : (P : ℕ → Type 0) (n : ℕ) → ((k : ℕ) → k < n → P k) → All P (range_with_len 0 n)
+pub all_counting : (P : ℕ → Type 0) (n : ℕ) → ((k : ℕ) → k < n → P k) → AllByRecursion P (range_with_len 0 n)
 all_counting P n each = let id : ℕ → ℕ = λ k. k in let all = all_map_counting P id n each in simp map-id at all
 
 -- at most all are kept

@@ -1,12 +1,12 @@
 -- Plans of a book, the selections that can stand alone: what they earn and pay, and which of them are best.
 use Rattle.std.specs.Prelude.{◌≡◌, ℕ, ◌+◌, ◌≤◌, true, cond, length, slice_index_or}
-use Rattle.std.specs.List.{AllByRecursion as All}
+use Rattle.std.specs.List.{AllByRecursion}
 use Rattle.network.specs.Cuts.{Selection, sum_below, cost, Cheapest}
 use Rattle.book.specs.Books.{Book, no_amounts, network_of}
 
 -- a selection that holds, with an entry, all that it needs
 abbrev pub Plan : Book → Selection → Type 0
-Plan b X = All (λ x. X x.entry ≡ true → X x.needed ≡ true) b.needs
+Plan b X = AllByRecursion (λ x. X x.entry ≡ true → X x.needed ≡ true) b.needs
 
 -- what all entries earn
 abbrev pub total_earnings : Book → ℕ
@@ -23,7 +23,7 @@ paid b X = sum_below (length b.entries) (λ u. cond (X u) (slice_index_or b.entr
 -- a book within its bounds
 pub record SoundBook (b : Book) : Type 0 where
   pub few : length b.entries ≤ 4096
-  pub small : All (λ x. (x.earning ≤ 1000000) × (x.cost ≤ 1000000)) b.entries
+  pub small : AllByRecursion (λ x. (x.earning ≤ 1000000) × (x.cost ≤ 1000000)) b.entries
   pub few_needs : length b.needs ≤ 16384
 
 -- the net of a plan is what it earns less what it pays; the cheapest selections are the plans of the greatest net

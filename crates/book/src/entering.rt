@@ -11,7 +11,7 @@ use super::refusal::EnterRefusal;
 impl<'a> OpenBook<'a> {
     // A book without entries over the table, which stays as it is.
     pub fn new(table: &'a mut [Record]) -> OpenBook<'a>
-        ensures { open_of result ≡ record { table = table.entry.now; book = empty } }
+        ensures { open_of result ≡ record { table = table.old; book = empty } }
     {
         OpenBook {
             table,

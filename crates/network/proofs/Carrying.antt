@@ -2,7 +2,7 @@
 use Rattle.std.proofs.Common.{◌≡◌, ℕ, zero, suc, ◌+◌, ◌<◌, ◌≤◌, List, [], ◌∷◌, ◌++◌, map, Some, sym, refl, ap, ◌∙◌, subst, ⊎_elim, arith}
 use Rattle.std.proofs.ByRecursion.{all-has, has_push}
 use Rattle.std.proofs.lemmas.Bool.{cases_eq, cases_Bool}
-use Rattle.std.specs.List.{AllByRecursion as All, slice_get}
+use Rattle.std.specs.List.{AllByRecursion, slice_get}
 use Rattle.network.specs.declared.terminal.Terminal.{Terminal}
 use Rattle.network.specs.declared.terminal.Terminal.TheVariants.{Source, Sink}
 use Rattle.network.specs.Nets.{Ends, Graph, Net, LawfulGraph, Lawful, Distinct, taken, shifted}
@@ -69,7 +69,7 @@ along v u (a ∷ more) x l (e, is, from, c) d room =
       costs = λ X. omega (arith, rest.costs X, shifted_cost v X a x e l is room_first, ap (λ y. when (X y) x) from);
     })
 
-room_of : (f : ℕ → ℕ) (arcs ys : List ℕ) (x k b : ℕ) → All (λ r. x ≤ r) (map f arcs ++ ys) → slice_get arcs k ≡ Some b → x ≤ f b
+room_of : (f : ℕ → ℕ) (arcs ys : List ℕ) (x k b : ℕ) → AllByRecursion (λ r. x ≤ r) (map f arcs ++ ys) → slice_get arcs k ≡ Some b → x ≤ f b
 room_of f [] ys x k b least at = nth_nil k b at
 room_of f (a ∷ arcs) ys x zero b least at = let same : a ≡ b = cc in subst (λ y. x ≤ f y) same least.0
 room_of f (a ∷ arcs) ys x (suc k) b least at = room_of f arcs ys x k b least.1 at

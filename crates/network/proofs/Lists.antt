@@ -1,6 +1,6 @@
 -- What stands at the places of a list, and lists in which no number stands at two places.
 use Rattle.std.proofs.Common.{◌≡◌, ℕ, zero, suc, ◌<◌, ◌⊎◌, List, [], ◌∷◌, ◌++◌, length, Some, None, sym, refl, ap, ◌∙◌, subst, inl, inr, ⊎_elim, arith}
-use Rattle.std.specs.List.{AllByRecursion as All, slice_get}
+use Rattle.std.specs.List.{AllByRecursion, slice_get}
 use Rattle.network.specs.Nets.{Distinct}
 
 -- nothing stands in a list of none
@@ -19,12 +19,12 @@ nth_before (y ∷ xs) j zero x past at = let z : ◌≡◌ {A = ℕ} 0 1 = cc in
 nth_before (y ∷ xs) zero (suc k) x past at = omega arith
 nth_before (y ∷ xs) (suc j) (suc k) x past at = omega (arith, nth_before xs j k x past at)
 
-pub all_nth : (P : ℕ → Type 0) (xs : List ℕ) (k x : ℕ) → All P xs → slice_get xs k ≡ Some x → P x
+pub all_nth : (P : ℕ → Type 0) (xs : List ℕ) (k x : ℕ) → AllByRecursion P xs → slice_get xs k ≡ Some x → P x
 all_nth P [] k x all is = nth_nil k x is
 all_nth P (y ∷ xs) zero x all is = let same : y ≡ x = cc in subst P same all.0
 all_nth P (y ∷ xs) (suc k) x all is = all_nth P xs k x all.1 is
 
-pub all_by_nth : (P : ℕ → Type 0) (xs : List ℕ) → ((k x : ℕ) → slice_get xs k ≡ Some x → P x) → All P xs
+pub all_by_nth : (P : ℕ → Type 0) (xs : List ℕ) → ((k x : ℕ) → slice_get xs k ≡ Some x → P x) → AllByRecursion P xs
 all_by_nth P [] each = tt
 all_by_nth P (x ∷ xs) each = (each 0 x refl, all_by_nth P xs (λ k. each (suc k)))
 

@@ -2,7 +2,7 @@
 use Rattle.std.proofs.Common.{◌≡◌, ℕ, zero, suc, ◌+◌, ◌<◌, ◌≤◌, cond, eqb, List, [], ◌∷◌, length, Some, sym, refl, ap, subst, ⊎_elim, arith}
 use Rattle.std.proofs.lemmas.Bool.{cases_eq}
 use Rattle.std.proofs.lemmas.Bool.Decides.{nat_tests}
-use Rattle.std.specs.List.{AllByRecursion as All, slice_get}
+use Rattle.std.specs.List.{AllByRecursion, slice_get}
 use Rattle.network.specs.Nets.{Ends, Graph, LawfulGraph, Distinct}
 use Rattle.network.specs.Cuts.{sum_below}
 use Rattle.network.specs.Paths.{Chain, passed}
@@ -31,7 +31,7 @@ count_once k (x ∷ xs) d = ⊎_elim
     (cases_eq k x)
 
 -- each element is counted at its number
-count_all : (n : ℕ) (xs : List ℕ) → All (λ x. x < n) xs → sum_below n (λ k. count k xs) ≡ length xs
+count_all : (n : ℕ) (xs : List ℕ) → AllByRecursion (λ x. x < n) xs → sum_below n (λ k. count k xs) ≡ length xs
 count_all n [] below = sum_zero n (λ k. 0) (λ k _. refl)
 count_all n (x ∷ xs) (first, below) =
     let more = sum_differs n x (λ k. count k (x ∷ xs)) (λ k. count k xs) first (λ k far. grind (arith, nat_tests)) in
@@ -43,13 +43,13 @@ unfolding sum_below
 sum_ones zero f one = omega arith
 sum_ones (suc n) f one = omega (arith, sum_ones n f one, one n)
 
-pub pigeons : (n : ℕ) (xs : List ℕ) → All (λ x. x < n) xs → Distinct xs → length xs ≤ n
+pub pigeons : (n : ℕ) (xs : List ℕ) → AllByRecursion (λ x. x < n) xs → Distinct xs → length xs ≤ n
 pigeons n xs below d = omega (arith, count_all n xs below, sum_ones n (λ k. count k xs) (λ k. count_once k xs d))
 
-passed_there : (g : Graph) (u : ℕ) (arcs : List ℕ) → LawfulGraph g → u < g.nodes → Chain g u arcs → All (λ w. w < g.nodes) (passed g u arcs)
+passed_there : (g : Graph) (u : ℕ) (arcs : List ℕ) → LawfulGraph g → u < g.nodes → Chain g u arcs → AllByRecursion (λ w. w < g.nodes) (passed g u arcs)
 passed_there g u [] l there c = (there, tt)
 passed_there g u (a ∷ more) l there (e, is, from, c) =
-    (there, subst (λ (x : Ends). All (λ w. w < g.nodes) (passed g x.head more)) (sym (ends_are g a e is)) (passed_there g e.head more l (head_there g a e l is) c))
+    (there, subst (λ (x : Ends). AllByRecursion (λ w. w < g.nodes) (passed g x.head more)) (sym (ends_are g a e is)) (passed_there g e.head more l (head_there g a e l is) c))
 
 passed_length : (g : Graph) (u : ℕ) (arcs : List ℕ) → length (passed g u arcs) ≡ suc (length arcs)
 passed_length g u [] = refl

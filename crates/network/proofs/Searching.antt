@@ -3,7 +3,7 @@ use Rattle.std.proofs.Common.{◌≡◌, ℕ, zero, suc, ◌+◌, ◌<◌, ◌�
 use Rattle.std.proofs.ByRecursion.{All-push, All-weaker}
 use Rattle.std.proofs.lemmas.List.{map-append}
 use Rattle.std.proofs.lemmas.Bool.{cases_eq, cases_lt, cases_Bool, true≢false, lt-ltb, ltb-true, eq-eqb, ne_eqb}
-use Rattle.std.specs.List.{AllByRecursion as All}
+use Rattle.std.specs.List.{AllByRecursion}
 use Rattle.network.specs.declared.terminal.Terminal.TheVariants.{Source, Sink}
 use Rattle.network.specs.Nets.{Ends, Net, Lawful, Distinct, at}
 use Rattle.network.specs.Cuts.{Selection, sum_below, node_cost, arc_cost, cost}
@@ -41,9 +41,9 @@ record Trace (v : Net) (R : Selection) (u : ℕ) : Type 0 where
   source : 0 < v.terminal Source first
   chain : Chain v.graph first arcs
   distinct : Distinct (passed v.graph first arcs)
-  positive : All (λ r. 0 < r) (map v.residual arcs)
+  positive : AllByRecursion (λ r. 0 < r) (map v.residual arcs)
   to : last_node v.graph first arcs ≡ u
-  inside : All (λ w. R w ≡ true) (passed v.graph first arcs)
+  inside : AllByRecursion (λ w. R w ≡ true) (passed v.graph first arcs)
 
 -- an arc of positive residual out of R
 record Exit (v : Net) (R : Selection) (a : ℕ) : Type 0 where
@@ -100,9 +100,9 @@ trace_push v R a x t =
       source = t.source;
       chain = chain_push g t.first t.arcs a x.ends t.chain x.is (sym t.to);
       distinct = subst Distinct (sym nodes) (distinct_push before new t.distinct (λ k on. true≢false (sym (all_nth (λ w. R w ≡ true) before k new t.inside on) ∙ x.head)));
-      positive = subst (All (λ r. 0 < r)) (sym (map-append v.residual t.arcs (a ∷ []))) (All-push (λ r. 0 < r) (map v.residual t.arcs) (v.residual a) t.positive x.positive);
+      positive = subst (AllByRecursion (λ r. 0 < r)) (sym (map-append v.residual t.arcs (a ∷ []))) (All-push (λ r. 0 < r) (map v.residual t.arcs) (v.residual a) t.positive x.positive);
       to = last_push g t.first t.arcs a ∙ head;
-      inside = subst (All (λ w. more w ≡ true)) (sym nodes) (All-push (λ w. more w ≡ true) before new kept (joined_new R new new refl));
+      inside = subst (AllByRecursion (λ w. more w ≡ true)) (sym nodes) (All-push (λ w. more w ≡ true) before new kept (joined_new R new new refl));
     }
 
 -- R holds the source's roots, and only nodes that were reached

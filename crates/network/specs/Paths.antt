@@ -1,6 +1,6 @@
 -- Augmenting paths: what they are, carrying them out, and the words that they take in a trail.
 use Rattle.std.specs.Prelude.{◌≡◌, ℕ, ◌+◌, ◌<◌, ◌≤◌, List, [], ◌∷◌, ◌++◌, map, length, Some}
-use Rattle.std.specs.List.{ContainsAt as Has, AllByRecursion as All}
+use Rattle.std.specs.List.{ContainsAt, AllByRecursion}
 use Rattle.network.specs.declared.terminal.Terminal.TheVariants.{Source, Sink}
 use Rattle.network.specs.Nets.{Ends, Graph, Net, Distinct, ends_of, taken, shifted}
 
@@ -31,14 +31,14 @@ on_the_way v u arcs = v.terminal Source u ∷ (map v.residual arcs ++ v.terminal
 
 -- x is the smallest of rs
 pub record Smallest (x : ℕ) (rs : List ℕ) : Type 0 where
-  pub among : Has rs x
-  pub least : All (λ r. x ≤ r) rs
+  pub among : ContainsAt rs x
+  pub least : AllByRecursion (λ r. x ≤ r) rs
 
 pub record Augmenting (v : Net) (p : Path) : Type 0 where
   pub there : p.first < v.graph.nodes
   pub chain : Chain v.graph p.first p.arcs
   pub distinct : Distinct (passed v.graph p.first p.arcs)
-  pub positive : All (λ r. 0 < r) (on_the_way v p.first p.arcs)
+  pub positive : AllByRecursion (λ r. 0 < r) (on_the_way v p.first p.arcs)
   pub amount : Smallest p.amount (on_the_way v p.first p.arcs)
 
 -- v with x shifted along each arc

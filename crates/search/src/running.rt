@@ -109,8 +109,8 @@ pub fn run<N: Network>(
     trail: &mut [u64],
     marks: &mut [u8],
 ) -> Result<Report, RunRefusal>
-    ensures ran { Run (N.Network.value net.old) (record { work = work.entry.now; trail = trail.old; marks = marks.old }) result (N.Network.value net.new) (record { work = work.exit.now; trail = trail.new; marks = marks.new }) }
-    ensures promise { Promise (N.Network.value net.old) result (N.Network.value net.new) (record { work = work.exit.now; trail = trail.new; marks = marks.new }) }
+    ensures ran { Run (N.Network.value net.old) (record { work = work.old; trail = trail.old; marks = marks.old }) result (N.Network.value net.new) (record { work = work.new; trail = trail.new; marks = marks.new }) }
+    ensures promise { Promise (N.Network.value net.old) result (N.Network.value net.new) (record { work = work.new; trail = trail.new; marks = marks.new }) }
 {
     let count = net.node_count();
     if let Some(refusal) = RunRefusal::first(count, work.len(), marks.len()) {

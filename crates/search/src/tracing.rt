@@ -1,6 +1,6 @@
 // Tracing a path: from a bridge up both trees, and the path's words into a slice.
 ghost use Rattle.std.specs.Prelude.{◌≡◌, ◌+◌, ◌<◌, ◌≤◌, length, Some};
-ghost use Rattle.std.specs.List.{AllByRecursion as All};
+ghost use Rattle.std.specs.List.{AllByRecursion};
 ghost use Rattle.network.specs.declared.terminal.Terminal.TheVariants.{Source};
 ghost use Rattle.network.specs.Paths.{Smallest};
 ghost use Rattle.trees.specs.Forests.{forest};
@@ -116,7 +116,7 @@ fn trace_arcs<N: Network>(net: &N, work: &[Work], bridge: usize, arcs: &mut [u64
 fn smallest<N: Network>(net: &N, first: usize, last: usize, arcs: &[u64]) -> u64
     requires first { first < (N.Network.value net.now).graph.nodes }
     requires last { last < (N.Network.value net.now).graph.nodes }
-    requires arcs { All (There (N.Network.value net.now).graph) arcs.now }
+    requires arcs { AllByRecursion (There (N.Network.value net.now).graph) arcs.now }
     ensures { Smallest result (residuals (N.Network.value net.now) first arcs.now last) }
 {
     let start = terminal_residual(net, Terminal::Source, first);

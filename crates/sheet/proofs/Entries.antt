@@ -3,7 +3,7 @@ use Rattle.std.proofs.Common.{◌≡◌, ℕ, ◌+◌, ◌*◌, ◌^◌, ◌<◌
 use lib.Pow.{pow-lt}
 use Rattle.std.proofs.lemmas.List.{append_assoc, length-append}
 use Rattle.std.proofs.lemmas.Bool.{cases_order}
-use Rattle.std.specs.List.{AllByRecursion as All}
+use Rattle.std.specs.List.{AllByRecursion}
 use Rattle.sheet.specs.Format.{Entry, bytes, amount_bytes, need_bytes, flag, bit_map, entry_bytes}
 use Rattle.sheet.specs.Sound.{Under, Fits}
 use Rattle.sheet.proofs.Numbers.{length_bytes, split_same, bytes_same}
@@ -69,7 +69,7 @@ amount_same (Some x) (Some y) s t k a b same =
     let (field, rest) = split_same (bytes 4 x) (bytes 4 y) s t (length_bytes 4 x ∙ sym (length_bytes 4 y)) same in
     (ap Some (bytes_same 4 x y a b field), rest)
 
-needs_same : (ms ns : List ℕ) (s t : List ℕ) → length ms ≡ length ns → All (λ j. j < 2 ^ 16) ms → All (λ j. j < 2 ^ 16) ns → need_bytes ms ++ s ≡ need_bytes ns ++ t → (ms ≡ ns) × (s ≡ t)
+needs_same : (ms ns : List ℕ) (s t : List ℕ) → length ms ≡ length ns → AllByRecursion (λ j. j < 2 ^ 16) ms → AllByRecursion (λ j. j < 2 ^ 16) ns → need_bytes ms ++ s ≡ need_bytes ns ++ t → (ms ≡ ns) × (s ≡ t)
 needs_same [] [] s t k a b same = (refl, same)
 needs_same [] (y ∷ ns) s t k a b same = absurd (omega arith)
 needs_same (x ∷ ms) [] s t k a b same = absurd (omega arith)

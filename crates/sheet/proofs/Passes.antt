@@ -2,7 +2,7 @@
 use Rattle.std.proofs.Common.{◌≡◌, ℕ, suc, ◌+◌, ◌*◌, ◌≤◌, List, [], ◌∷◌, ◌++◌, length, drop, Ok, Err, Result, sym, refl, ap, ◌∙◌, subst, arith}
 use Rattle.std.proofs.ByRecursion.{All-push}
 use Rattle.std.proofs.lemmas.List.{append_assoc, length_push}
-use Rattle.std.specs.List.{AllByRecursion as All}
+use Rattle.std.specs.List.{AllByRecursion}
 use Rattle.sheet.specs.declared.Counts.{Counts}
 use Rattle.sheet.specs.declared.records.Record.{Record}
 use Rattle.sheet.specs.declared.refusal.SheetRefusal.{SheetRefusal}
@@ -79,7 +79,7 @@ rest_of i (d ∷ ds) (f ∷ es) e t a fits b same =
 pub record Checking (bs : List ℕ) (n : ℕ) (from : Cursor) : Type 0 where
   pub read : List Entry
   pub progress : Progress bs read from
-  pub there : All (There n) read
+  pub there : AllByRecursion (There n) read
 
 pub checking_none : (bs : List ℕ) (n : ℕ) → Checking bs n start
 checking_none bs n = record { read = []; progress = progress_none bs; there = tt }
@@ -105,7 +105,7 @@ checking_missing bs c from to r k x h missing =
       sheet = subst (SoundSheet bs) is k.sheet;
       number = ap (λ (y : Record). y.number) h.places ∙ p.number;
       place = ap (λ (y : Record). y.byte) h.places ∙ p.place;
-      there = subst (λ m. All (There m) x.read) all x.there;
+      there = subst (λ m. AllByRecursion (There m) x.read) all x.there;
       missing = subst (λ m. There m e → ⊥) all missing;
     })
 

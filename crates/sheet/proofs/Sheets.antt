@@ -3,7 +3,7 @@ use Rattle.std.proofs.Common.{◌≡◌, ℕ, suc, ◌+◌, ◌-◌, ◌/◌, �
 use Rattle.std.proofs.ByRecursion.{All-get_or}
 use Rattle.std.proofs.lemmas.List.{append_assoc, append-nil, length-append, get_or-take, length-take}
 use Rattle.std.proofs.lemmas.Bool.{cases_order}
-use Rattle.std.specs.List.{AllByRecursion as All}
+use Rattle.std.specs.List.{AllByRecursion}
 use Rattle.sheet.specs.declared.Counts.{Counts}
 use Rattle.sheet.specs.declared.refusal.Fault.{Fault}
 use Rattle.sheet.specs.declared.refusal.Fault.TheVariants.{TooMany, HighBits, NeedGap, CutShort, AmountRange, NeedOrder}
@@ -150,7 +150,7 @@ missing bs i p x = all_sound bs (x.before ++ x.entry ∷ x.after) x.sheet.whole 
 pub one_list : (bs : List ℕ) (ds es : List Entry) → SheetOf bs ds → SheetOf bs es → ds ≡ es
 one_list bs ds es x y = (parsed_same bs ds es [] [] (well bs ds x) (well bs es y)).0
 
-all_middle : (P : Entry → Type 0) (ds : List Entry) (e : Entry) (es : List Entry) → All P (ds ++ e ∷ es) → P e
+all_middle : (P : Entry → Type 0) (ds : List Entry) (e : Entry) (es : List Entry) → AllByRecursion P (ds ++ e ∷ es) → P e
 all_middle P [] e es all = all.0
 all_middle P (d ∷ ds) e es all = all_middle P ds e es all.1
 
@@ -158,7 +158,7 @@ length_middle : (ds : List Entry) (e : Entry) (es : List Entry) → 0 < length (
 length_middle ds e es = omega (arith, length-append ds (e ∷ es))
 
 -- the first element without P is at one place
-first_without : (P : Entry → Type 0) (xs ys : List Entry) (d e : Entry) (cs ds : List Entry) → All P xs → All P ys → (P d → ⊥) → (P e → ⊥) → xs ++ d ∷ cs ≡ ys ++ e ∷ ds → xs ≡ ys
+first_without : (P : Entry → Type 0) (xs ys : List Entry) (d e : Entry) (cs ds : List Entry) → AllByRecursion P xs → AllByRecursion P ys → (P d → ⊥) → (P e → ⊥) → xs ++ d ∷ cs ≡ ys ++ e ∷ ds → xs ≡ ys
 first_without P [] [] d e cs ds a b x y same = refl
 first_without P [] (k ∷ ys) d e cs ds a b x y same = let head : d ≡ k = cc in absurd (x (subst P (sym head) b.0))
 first_without P (k ∷ xs) [] d e cs ds a b x y same = let head : k ≡ e = cc in absurd (y (subst P head a.0))
@@ -177,7 +177,7 @@ no_fault bs es f i p all x =
 none_missing : (bs : List ℕ) (es : List Entry) (i p : ℕ) → SheetOf bs es → MissingAt bs i p → ⊥
 none_missing bs es i p x y =
     let same = (parsed_same bs es (y.before ++ y.entry ∷ y.after) [] [] (well bs es x) (missing bs i p y)).0 in
-    y.missing (all_middle (There (length (y.before ++ y.entry ∷ y.after))) y.before y.entry y.after (subst (λ l. All (There (length l)) l) same x.well.there))
+    y.missing (all_middle (There (length (y.before ++ y.entry ∷ y.after))) y.before y.entry y.after (subst (λ l. AllByRecursion (There (length l)) l) same x.well.there))
 
 not_empty : (bs : List ℕ) (es : List Entry) → Parsed bs es [] → 0 < length es → bs ≡ [] → ⊥
 not_empty bs es x some none =
@@ -201,7 +201,7 @@ same_missing bs i j p q x y =
     let all = (parsed_same bs (x.before ++ x.entry ∷ x.after) (y.before ++ y.entry ∷ y.after) [] [] (missing bs i p x) (missing bs j q y)).0 in
     let n = length (x.before ++ x.entry ∷ x.after) in
     let long = ap length all in
-    let before = first_without (There n) x.before y.before x.entry y.entry x.after y.after x.there (subst (λ m. All (There m) y.before) (sym long) y.there) x.missing (subst (λ m. There m y.entry → ⊥) (sym long) y.missing) all in
+    let before = first_without (There n) x.before y.before x.entry y.entry x.after y.after x.there (subst (λ m. AllByRecursion (There m) y.before) (sym long) y.there) x.missing (subst (λ m. There m y.entry → ⊥) (sym long) y.missing) all in
     let number : i ≡ j = x.number ∙ ap length before ∙ sym y.number in
     let place : p ≡ q = x.place ∙ ap (λ l. length (sheet_bytes l)) before ∙ sym y.place in
     cc
@@ -235,13 +235,13 @@ some_entries bs [] some whole = absurd (some whole)
 some_entries bs (e ∷ es) some whole = omega arith
 
 -- a sheet that passed both rounds of questions is accepted
-pub accepted : (bs : List ℕ) (c : Counts) → (bs ≡ [] → ⊥) → (es : List Entry) × SoundSheet bs es × (c ≡ counts es) → (es : List Entry) × SoundSheet bs es × All (There c.entries) es → Answers bs (Ok c)
+pub accepted : (bs : List ℕ) (c : Counts) → (bs ≡ [] → ⊥) → (es : List Entry) × SoundSheet bs es × (c ≡ counts es) → (es : List Entry) × SoundSheet bs es × AllByRecursion (There c.entries) es → Answers bs (Ok c)
 accepted bs c some (ds, x, is) (es, y, there) =
     let same = sound_same bs ds es x y in
     let number = ap (λ (n : Counts). n.entries) is ∙ ap length same in (
       es,
       record {
-        well = record { some = some_entries bs es some y.whole; sound = y.sound; there = subst (λ n. All (There n) es) number there };
+        well = record { some = some_entries bs es some y.whole; sound = y.sound; there = subst (λ n. AllByRecursion (There n) es) number there };
         whole = y.whole;
       },
       is ∙ ap counts same,

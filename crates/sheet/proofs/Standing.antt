@@ -1,7 +1,7 @@
 -- The entry that stands at the places of a record: its bytes are the sheet's, and its bit map is the one that laid the places.
 use Rattle.std.proofs.Common.{◌≡◌, ℕ, zero, suc, ◌+◌, ◌-◌, ◌*◌, ◌/◌, ◌%◌, ◌^◌, ◌<◌, ◌≤◌, List, ◌∷◌, ◌++◌, length, get_or, drop, Some, None, Option, sym, refl, ap, ◌∙◌, arith}
 use Rattle.std.proofs.lemmas.List.{append_assoc, take-append-drop, drop-drop, drop_more}
-use Rattle.std.specs.List.{AllByRecursion as All}
+use Rattle.std.specs.List.{AllByRecursion}
 use Rattle.sheet.specs.Format.{Entry, bytes, amount_bytes, need_bytes, flag, bit_map, entry_bytes}
 use Rattle.sheet.specs.Sound.{Under, Fits}
 use Rattle.sheet.specs.Places.{number_at, amount_at, needs_at, kind_of, earning_place, cost_place, entry_at, place, placed}
@@ -44,7 +44,7 @@ needs_stand bs p (suc k) small inside =
     number_stands bs p 2 small (omega arith) ∙ ap (λ l. bytes 2 (number_at bs p 2) ++ l) more
     ∙ sym (append_assoc (bytes 2 (number_at bs p 2)) (need_bytes (needs_at bs (p + 2) k)) (drop (p + 2 * suc k) bs))
 
-needs_below : (bs : List ℕ) (p k : ℕ) → Bytes bs → All (λ j. j < 2 ^ 16) (needs_at bs p k)
+needs_below : (bs : List ℕ) (p k : ℕ) → Bytes bs → AllByRecursion (λ j. j < 2 ^ 16) (needs_at bs p k)
 unfolding needs_at
 needs_below bs p zero small = tt
 needs_below bs p (suc k) small = (number_below bs p 2 small, needs_below bs (p + 2) k small)

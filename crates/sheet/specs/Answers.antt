@@ -1,6 +1,6 @@
 -- The answer to a sheet: accepted for the one list of entries it stands for, or refused by the first question that fails.
 use Rattle.std.specs.Prelude.{◌≡◌, ℕ, ◌-◌, ◌/◌, ◌%◌, ◌^◌, ◌<◌, List, [], ◌∷◌, ◌++◌, length, Ok, Err, Result, slice_index}
-use Rattle.std.specs.List.{AllByRecursion as All}
+use Rattle.std.specs.List.{AllByRecursion}
 use Rattle.sheet.specs.declared.Counts.{Counts}
 use Rattle.sheet.specs.declared.refusal.Fault.{Fault}
 use Rattle.sheet.specs.declared.refusal.Fault.TheVariants.{TooMany, HighBits, NeedGap, CutShort, AmountRange, NeedOrder}
@@ -27,7 +27,7 @@ Free NeedOrder i bs = (e : Entry) × Begins bs e × Ordered i e.needs
 
 -- the first question that fails is the one that finds f
 pub record First (f : Fault) (i : ℕ) (bs : List ℕ) : Type 0 where
-  pub before : All (λ g. Free g i bs) (asked_before f)
+  pub before : AllByRecursion (λ g. Free g i bs) (asked_before f)
   pub fails : Free f i bs → ⊥
 
 -- the records before number i, which begins at byte p, are sound, and it is the first with a fault, which is f
@@ -54,7 +54,7 @@ pub record MissingAt (bs : List ℕ) (i p : ℕ) : Type 0 where
   pub sheet : SoundSheet bs (before ++ entry ∷ after)
   pub number : i ≡ length before
   pub place : p ≡ length (sheet_bytes before)
-  pub there : All (There (length (before ++ entry ∷ after))) before
+  pub there : AllByRecursion (There (length (before ++ entry ∷ after))) before
   pub missing : There (length (before ++ entry ∷ after)) entry → ⊥
 
 -- bs is the sheet of the well-formed list es

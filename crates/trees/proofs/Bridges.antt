@@ -3,7 +3,7 @@ use Rattle.std.proofs.Common.{◌≡◌, ℕ, zero, suc, ◌+◌, ◌<◌, ◌�
 use mathlib.Core.List.{reverse_aux, reverse_aux-eq}
 use Rattle.std.proofs.ByRecursion.{All-push, All-weaker}
 use Rattle.std.proofs.lemmas.List.{length-append, length-reverse}
-use Rattle.std.specs.List.{AllByRecursion as All, slice_get}
+use Rattle.std.specs.List.{AllByRecursion, slice_get}
 use Rattle.network.specs.declared.terminal.Terminal.TheVariants.{Source, Sink}
 use Rattle.network.specs.Nets.{Ends, Graph, Net, Lawful, Distinct, ends_of}
 use Rattle.network.specs.Paths.{Path, Chain, passed, last_node, on_the_way, Smallest, Augmenting}
@@ -25,7 +25,7 @@ pub record Leads (v : Net) (f : Forest) (u w : ℕ) (arcs : List ℕ) : Type 0 w
   pub chain : Chain v.graph u arcs
   pub to : last_node v.graph u arcs ≡ w
   pub distinct : Distinct (passed v.graph u arcs)
-  pub positive : All (λ r. 0 < r) (map v.residual arcs)
+  pub positive : AllByRecursion (λ r. 0 < r) (map v.residual arcs)
   pub onward : AllOnward v.graph f arcs
 
 leads_none : (v : Net) (f : Forest) (u : ℕ) → Leads v f u u []
@@ -79,20 +79,20 @@ abbrev Beyond : Net → Forest → ℕ → ℕ → Type 0
 Beyond v f k x = f.tree x ≡ Some Source → (h : ℕ) → Height v.graph f.parent Source x h → k ≤ h
 
 -- a climb in the source's tree, turned round, leads from its upper end to its lower, and on by what leads on from there
-pub source_leads : (v : Net) (f : Forest) (u w z : ℕ) (arcs rest : List ℕ) → Lawful v → Trees v f → u < v.graph.nodes → f.tree u ≡ Some Source → Climb v.graph f.parent Source u w arcs → f.parent w ≡ Root → All (Beyond v f (length arcs)) (passed v.graph u rest) → Leads v f u z rest → Leads v f w z (reverse_aux arcs rest)
+pub source_leads : (v : Net) (f : Forest) (u w z : ℕ) (arcs rest : List ℕ) → Lawful v → Trees v f → u < v.graph.nodes → f.tree u ≡ Some Source → Climb v.graph f.parent Source u w arcs → f.parent w ≡ Root → AllByRecursion (Beyond v f (length arcs)) (passed v.graph u rest) → Leads v f u z rest → Leads v f w z (reverse_aux arcs rest)
 source_leads v f u w z arcs rest l h there in_tree here top low way = way
 source_leads v f u w z arcs rest l h there in_tree (up {arcs = more} a e hung is c) top low way =
     let g = v.graph in
     let b = parent_arc v f Source u a e h there in_tree hung is in
     let nodes = passed g e.head rest in
-    let below : All (Beyond v f (suc (length more))) nodes = subst (λ x. All (Beyond v f (suc (length more))) (passed g x rest)) (sym b.child) low in
+    let below : AllByRecursion (Beyond v f (suc (length more))) nodes = subst (λ x. AllByRecursion (Beyond v f (suc (length more))) (passed g x rest)) (sym b.child) low in
     let mine : Height g f.parent Source e.tail (length more) = (w, more, c, top, refl) in
     let new : (k : ℕ) → slice_get nodes k ≡ Some e.tail → ⊥ = λ k at.
     omega (arith, all_nth (Beyond v f (suc (length more))) nodes k e.tail below at b.same_tree (length more) mine) in
-    let lower : All (Beyond v f (length more)) nodes = All-weaker (Beyond v f (suc (length more))) (Beyond v f (length more)) (λ x far s j its. omega (arith, far s j its)) nodes below in
+    let lower : AllByRecursion (Beyond v f (length more)) nodes = All-weaker (Beyond v f (suc (length more))) (Beyond v f (length more)) (λ x far s j its. omega (arith, far s j its)) nodes below in
     let onward : Onward f e = inl (Source, b.same_tree, subst (λ x. f.tree x ≡ Some Source) (sym b.child) in_tree) in
     source_leads v f e.tail w z more (a ∷ rest) l h (near_there g Source a e l.graph is) b.same_tree c top
-    (λ s j its. omega (arith, one_height g f.parent Source e.tail j (length more) its mine), subst (λ (x : Ends). All (Beyond v f (length more)) (passed g x.head rest)) (sym (ends_are g a e is)) lower)
+    (λ s j its. omega (arith, one_height g f.parent Source e.tail j (length more) its mine), subst (λ (x : Ends). AllByRecursion (Beyond v f (length more)) (passed g x.head rest)) (sym (ends_are g a e is)) lower)
     (leads_cons v f z a e rest is b.positive onward new (subst (λ x. Leads v f x z rest) (sym b.child) way))
 
 -- the arcs from one terminal's child to the other's: up the source's tree turned round, over the bridge, and up the sink's
@@ -108,14 +108,14 @@ bridge_leads v f a e first last xs ys l h b c top d end =
     let tail = l.graph.tail_there a e b.ends in
     let head = head_there g a e l.graph b.ends in
     let way = sink_leads v f e.head last ys l h head b.head d end in
-    let low = subst (All (Within v f Sink (length ys))) (up_passed g e.head ys) (nodes_within v f Sink e.head last ys l h head b.head d end) in
+    let low = subst (AllByRecursion (Within v f Sink (length ys))) (up_passed g e.head ys) (nodes_within v f Sink e.head last ys l h head b.head d end) in
     let nodes = passed g e.head ys in
     let apart : (x : ℕ) → Within v f Sink (length ys) x → f.tree x ≡ Some Source → ⊥ = λ x s t. source_sink (one_tree (f.tree x) Source Sink t s.tree) in
     let new : (k : ℕ) → slice_get nodes k ≡ Some e.tail → ⊥ = λ k at. apart e.tail (all_nth (Within v f Sink (length ys)) nodes k e.tail low at) b.tail in
-    let far : All (Beyond v f (length xs)) nodes = All-weaker (Within v f Sink (length ys)) (Beyond v f (length xs)) (λ x s t. absurd (apart x s t)) nodes low in
+    let far : AllByRecursion (Beyond v f (length xs)) nodes = All-weaker (Within v f Sink (length ys)) (Beyond v f (length xs)) (λ x s t. absurd (apart x s t)) nodes low in
     let mine : Beyond v f (length xs) e.tail = λ s j its. omega (arith, one_height g f.parent Source e.tail j (length xs) its (first, xs, c, top, refl)) in
     let crossing = leads_cons v f last a e ys b.ends b.positive (inr (b.tail, b.head)) new way in
-    let all = subst (λ (x : Ends). All (Beyond v f (length xs)) (e.tail ∷ passed g x.head ys)) (sym (ends_are g a e b.ends)) (mine, far) in
+    let all = subst (λ (x : Ends). AllByRecursion (Beyond v f (length xs)) (e.tail ∷ passed g x.head ys)) (sym (ends_are g a e b.ends)) (mine, far) in
     subst (Leads v f first last) (reverse_aux-eq xs (a ∷ ys)) (source_leads v f e.tail first last xs (a ∷ ys) l h tail b.tail c top all crossing)
 
 -- the path over a bridge, all of whose arcs lead onward

@@ -1,6 +1,6 @@
 -- Over a bridge: from the climbs at its two ends to the path that is written.
 use Rattle.std.proofs.Common.{◌≡◌, ℕ, ◌+◌, ◌<◌, ◌≤◌, List, [], ◌∷◌, ◌++◌, map, length, Some, sym, refl, ap, ◌∙◌, subst, arith}
-use Rattle.std.specs.List.{AllByRecursion as All}
+use Rattle.std.specs.List.{AllByRecursion}
 use Rattle.network.specs.declared.terminal.Terminal.{Terminal}
 use Rattle.network.specs.declared.terminal.Terminal.TheVariants.{Source, Sink}
 use Rattle.network.specs.Nets.{Ends, Graph, Net, Lawful, ends_of}
@@ -73,7 +73,7 @@ crossed v f a tail head below above xs ys l s (e, b) from to c d =
       to = way.to;
     }
 
-chain_there : (g : Graph) (u : ℕ) (arcs : List ℕ) → Chain g u arcs → All (There g) arcs
+chain_there : (g : Graph) (u : ℕ) (arcs : List ℕ) → Chain g u arcs → AllByRecursion (There g) arcs
 chain_there g u [] c = tt
 chain_there g u (a ∷ more) (e, is, _, c) = ((e, is), chain_there g e.head more c)
 
@@ -81,7 +81,7 @@ chain_there g u (a ∷ more) (e, is, _, c) = ((e, is), chain_there g e.head more
 pub record WayThere (v : Net) (first last : ℕ) (arcs : List ℕ) : Type 0 where
   pub first_there : first < v.graph.nodes
   pub last_there : last < v.graph.nodes
-  pub arcs_there : All (There v.graph) arcs
+  pub arcs_there : AllByRecursion (There v.graph) arcs
   pub short : length arcs < v.graph.nodes
 
 pub way_there : (v : Net) (f : Forest) (first last : ℕ) (arcs : List ℕ) → Lawful v → Passable v f first last arcs → WayThere v first last arcs

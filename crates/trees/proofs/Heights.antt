@@ -2,7 +2,7 @@
 use Rattle.std.proofs.Common.{◌≡◌, ℕ, suc, ◌+◌, ◌<◌, ◌≤◌, List, [], ◌∷◌, ◌++◌, length, Some, sym, refl, ap, subst, arith}
 use Rattle.std.proofs.ByRecursion.{All-append, All-weaker}
 use Rattle.std.proofs.lemmas.List.{length-append}
-use Rattle.std.specs.List.{AllByRecursion as All, slice_get}
+use Rattle.std.specs.List.{AllByRecursion, slice_get}
 use Rattle.network.specs.declared.terminal.Terminal.{Terminal}
 use Rattle.network.specs.Nets.{Ends, Graph, Net, Lawful, Distinct, ends_of}
 use Rattle.network.specs.Sides.{near}
@@ -35,7 +35,7 @@ pub record Within (v : Net) (f : Forest) (t : Terminal) (k x : ℕ) : Type 0 whe
   pub is : Height v.graph f.parent t x height
 
 -- the nodes that a climb to the terminal meets are at most as far below the terminal as the first
-pub nodes_within : (v : Net) (f : Forest) (t : Terminal) (u w : ℕ) (arcs : List ℕ) → Lawful v → Trees v f → u < v.graph.nodes → f.tree u ≡ Some t → Climb v.graph f.parent t u w arcs → f.parent w ≡ Root → All (Within v f t (length arcs)) (nodes_up v.graph t u arcs)
+pub nodes_within : (v : Net) (f : Forest) (t : Terminal) (u w : ℕ) (arcs : List ℕ) → Lawful v → Trees v f → u < v.graph.nodes → f.tree u ≡ Some t → Climb v.graph f.parent t u w arcs → f.parent w ≡ Root → AllByRecursion (Within v f t (length arcs)) (nodes_up v.graph t u arcs)
 nodes_within v f t u w arcs l h there in_tree here top = (record { there = there; tree = in_tree; height = 0; low = omega arith; is = (u, [], here, top, refl) }, tt)
 nodes_within v f t u w arcs l h there in_tree (up {arcs = more} a e hung is c) top =
     let g = v.graph in
@@ -43,7 +43,7 @@ nodes_within v f t u w arcs l h there in_tree (up {arcs = more} a e hung is c) t
     let above = nodes_within v f t (near t e) w more l h (near_there g t a e l.graph is) (parent_arc v f t u a e h there in_tree hung is).same_tree c top in
     let raised = All-weaker (Within v f t k) (Within v f t (suc k)) (λ x (s : Within v f t k x). record { there = s.there; tree = s.tree; height = s.height; low = omega (arith, s.low); is = s.is }) (nodes_up g t (near t e) more) above in (
       record { there = there; tree = in_tree; height = suc k; low = omega arith; is = (w, a ∷ more, up a e hung is c, top, refl) },
-      subst (λ (x : Ends). All (Within v f t (suc k)) (nodes_up g t (near t x) more)) (sym (ends_are g a e is)) raised,
+      subst (λ (x : Ends). AllByRecursion (Within v f t (suc k)) (nodes_up g t (near t x) more)) (sym (ends_are g a e is)) raised,
     )
 
 -- a climb to the terminal rises with each step, so it meets no node twice

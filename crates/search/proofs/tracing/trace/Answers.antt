@@ -1,5 +1,5 @@
 use Rattle.std.proofs.Common.{◌≤◌, length, sym, subst, arith, rules}
-use Rattle.std.specs.List.{AllByRecursion as All}
+use Rattle.std.specs.List.{AllByRecursion}
 use Rattle.network.specs.Paths.{Smallest}
 use Rattle.trees.specs.Forests.{forest}
 use Rattle.trees.specs.Trees.{There}
@@ -42,7 +42,7 @@ smallest-amount-requires g c =
     record {
       first = there.first_there;
       last = there.last_there;
-      arcs = subst (All (There v.graph)) (sym (read_after_three c.args.words.now c.trace_arcs-count.new.arcs arcs c.trace_arcs-count.result.count room count written)) there.arcs_there;
+      arcs = subst (AllByRecursion (There v.graph)) (sym (read_after_three c.args.words.now c.trace_arcs-count.new.arcs arcs c.trace_arcs-count.result.count room count written)) there.arcs_there;
     }
 
 pub bounds-words-2 : goal.bounds-words-2
