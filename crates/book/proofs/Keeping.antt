@@ -1,15 +1,15 @@
 -- What holds of an open book's table, kept by each entry and each need.
-use Rattle.std.proofs.Common.{◌≡◌, ℕ, suc, ◌+◌, ◌-◌, ◌*◌, ◌%◌, ◌<◌, ◌≤◌, Bool, true, false, cond, eqb, List, [], ◌∷◌, ◌++◌, map, length, filter, sym, refl, ap, ◌∙◌, subst, ⊎_elim, add-one, arith}
+use Rattle.std.proofs.Common.{◌≡◌, ℕ, ◌+◌, ◌*◌, ◌<◌, ◌≤◌, eqb, [], map, length, sym, refl, ap, ◌∙◌, ⊎_elim, add-one, arith}
 use Rattle.std.specs.List.{range_with_len}
 use Rattle.std.proofs.lemmas.Bool.{cases_eq, eq-eqb, ne_eqb}
 use Rattle.std.proofs.lemmas.Bool.Decides.{nat_tests}
 use Rattle.network.specs.Nets.{at}
 use Rattle.network.specs.Cuts.{sum_below}
-use Rattle.network.proofs.Sums.{sum_same, sum_differs}
-use Rattle.book.specs.Books.{Need, Book, needs_of, mate, binding}
-use Rattle.book.specs.Tables.{Columns, amounts_in, need_in, book_in, arcs_of, SmallAmounts, HeadsThere, Unsent, NeedsNoted, AtMostFour, NeedsCounted, ArcsCounted}
+use Rattle.network.proofs.Sums.{sum_same}
+use Rattle.book.specs.Books.{Need, needs_of, mate}
+use Rattle.book.specs.Tables.{Columns, need_in, book_in, arcs_of, SmallAmounts, HeadsThere, Unsent, NeedsNoted, AtMostFour, NeedsCounted, ArcsCounted}
 use Rattle.book.specs.Writes.{with_entry_at}
-use Rattle.book.proofs.Counts.{map_same, map_more, kept_same, kept_more, kept_none, all_map_counting, all_counting}
+use Rattle.book.proofs.Counts.{kept_none, all_map_counting, all_counting}
 
 -- what holds of the columns of n entries and m needs
 pub record Kept (c : Columns) (n m : ℕ) : Type 0 where

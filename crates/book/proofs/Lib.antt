@@ -3,4 +3,4 @@ pub mod Writes
 pub mod Counts
 pub mod Plans
 pub mod Keeping
-pub mod Entering
+pub mod Enterings

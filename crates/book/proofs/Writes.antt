@@ -1,12 +1,12 @@
 -- What is read of a table after a write to one record.
-use Rattle.std.proofs.Common.{◌≡◌, ℕ, ◌+◌, ◌-◌, ◌<◌, cond, eqb, ltb, List, [], ◌∷◌, ◌++◌, length, get_or, take, set, sym, refl, ap, ◌∙◌, ⊎_elim, arith, length-set}
+use Rattle.std.proofs.Common.{◌≡◌, ℕ, ◌+◌, ◌-◌, ◌<◌, List, length, take, set, sym, refl, ap, ◌∙◌, ⊎_elim, arith, length-set}
 use Rattle.std.proofs.lemmas.List.{get_or-set_same, get_or-set_other, take_more_set}
 use Rattle.std.proofs.lemmas.Bool.{cases_eq, eq-eqb, ne_eqb}
 use Rattle.std.proofs.lemmas.Bool.Decides.{nat_tests}
 use Rattle.network.specs.Nets.{at}
 use Rattle.book.specs.declared.record.Record.{Record}
 use Rattle.book.specs.Records.{as_entry, as_arc, needing, with_arc_more}
-use Rattle.book.specs.Tables.{no_record, front, back, Columns, columns}
+use Rattle.book.specs.Tables.{no_record, front, back, columns}
 use Rattle.book.specs.Writes.{with_entry_at, with_arc, with_needed, with_arcs}
 
 front_set : (table : List Record) (i : ℕ) (r : Record) (k : ℕ) → i < length table → front (set table i r) k ≡ at (front table) i r k

@@ -1,9 +1,9 @@
 -- What a book holds, and the network that it makes.
-use Rattle.std.specs.Prelude.{ℕ, ◌+◌, ◌-◌, ◌*◌, ◌/◌, ◌%◌, cond, List, [], ◌∷◌, ◌++◌, map, length, get_or, Some, None, filter, Option, ◌==◌, nat_eq, nat_lt, slice_index_or}
+use Rattle.std.specs.Prelude.{ℕ, ◌+◌, ◌-◌, ◌*◌, ◌/◌, ◌%◌, cond, List, [], ◌∷◌, ◌++◌, map, length, get_or, Some, None, filter, ◌==◌, nat_eq, nat_lt, slice_index_or}
 use Rattle.std.specs.List.{range_with_len}
 use Rattle.network.specs.declared.terminal.Terminal.{Terminal}
 use Rattle.network.specs.declared.terminal.Terminal.TheVariants.{Source, Sink}
-use Rattle.network.specs.Nets.{Ends, Graph, Net}
+use Rattle.network.specs.Nets.{Graph, Net}
 
 -- what an entry earns and what it costs
 pub record Amounts : Type 0 where

@@ -1,5 +1,5 @@
 -- When an open book refuses an entry or a need, and the numbers of the refusals.
-use Rattle.std.specs.Prelude.{ℕ, Bool, true, false, cond, ◌||◌, List, [], ◌∷◌, length, Some, None, Option, ◌==◌, nat_le, nat_lt}
+use Rattle.std.specs.Prelude.{ℕ, Bool, false, cond, ◌||◌, List, [], ◌∷◌, length, Some, None, Option, ◌==◌, nat_le, nat_lt}
 use Rattle.book.specs.declared.refusal.EnterRefusal.{EnterRefusal}
 use Rattle.book.specs.declared.refusal.EnterRefusal.TheVariants.{LargeEarning, LargeCost, ManyEntries, NoRecord}
 use Rattle.book.specs.declared.refusal.NeedRefusal.{NeedRefusal}

@@ -1,9 +1,7 @@
 -- How a table holds a book: entries from its front, the arcs of needs from its end.
-use Rattle.std.specs.Prelude.{◌≡◌, ℕ, ◌+◌, ◌-◌, ◌*◌, ◌<◌, ◌≤◌, cond, List, [], ◌∷◌, ◌++◌, map, length, take, nat_lt, slice_index_or}
+use Rattle.std.specs.Prelude.{◌≡◌, ℕ, ◌+◌, ◌-◌, ◌*◌, ◌<◌, ◌≤◌, cond, List, [], map, length, take, nat_lt, slice_index_or}
 use Rattle.std.specs.List.{range_with_len}
-use Rattle.network.specs.declared.terminal.Terminal.{Terminal}
-use Rattle.network.specs.declared.terminal.Terminal.TheVariants.{Source, Sink}
-use Rattle.network.specs.Nets.{Net, at}
+use Rattle.network.specs.Nets.{Net}
 use Rattle.network.specs.Cuts.{sum_below}
 use Rattle.book.specs.declared.record.Record.{Record}
 use Rattle.book.specs.Books.{Amounts, Need, Book, needs_of, amount, paired, binding}

@@ -1,5 +1,5 @@
 use Rattle.std.proofs.Common.{sym}
-use Rattle.book.proofs.Entering.{entry_count}
+use Rattle.book.proofs.Enterings.{entry_count}
 use Rattle.book.proofs.open.OpenBook.entry_count.Goals as goal
 
 pub returns : goal.returns

@@ -1,5 +1,5 @@
 use Rattle.std.proofs.Common.{sym}
-use Rattle.book.proofs.Entering.{unused_count}
+use Rattle.book.proofs.Enterings.{unused_count}
 use Rattle.book.proofs.open.OpenBook.unused.Goals as goal
 
 pub returns : goal.returns

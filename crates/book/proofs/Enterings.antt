@@ -1,13 +1,15 @@
 -- Entering an entry: what passes the questions, and what the table holds then.
-use Rattle.std.proofs.Common.{◌≡◌, ℕ, ◌+◌, ◌-◌, ◌*◌, ◌<◌, ◌≤◌, Bool, true, false, cond, eqb, ltb, leb, List, [], ◌∷◌, ◌++◌, map, length, set, Some, None, Ok, Option, sym, refl, ap, ◌∙◌, subst, arith, length-set}
+use Rattle.std.proofs.Common.{◌≡◌, ℕ, ◌+◌, ◌-◌, ◌*◌, ◌<◌, ◌≤◌, Bool, true, false, cond, ltb, leb, List, map, length, get_or, set, Some, None, Ok, Option, sym, refl, ap, ◌∙◌, subst, arith, length-set}
 use Rattle.std.specs.List.{range_with_len}
+use Rattle.std.proofs.lemmas.List.{get_or_default}
 use Rattle.std.proofs.lemmas.List.FromFn.{length-map-range_with_len}
 use Rattle.std.proofs.lemmas.Bool.{leb-false, ltb-false, eq-eqb, ne_eqb}
-use Rattle.network.specs.Nets.{at}
+use Rattle.book.specs.declared.open.OpenBook.{OpenBook}
 use Rattle.book.specs.declared.record.Record.{Record}
-use Rattle.book.specs.Books.{Amounts, with_entry}
+use Rattle.book.specs.declared.refusal.EnterRefusal.{EnterRefusal}
+use Rattle.book.specs.Books.{with_entry}
 use Rattle.book.specs.Records.{as_entry}
-use Rattle.book.specs.Tables.{Columns, columns, front, amounts_in, need_in, book_in}
+use Rattle.book.specs.Tables.{Columns, columns, no_record, front, amounts_in, need_in, book_in}
 use Rattle.book.specs.Writes.{with_entry_at}
 use Rattle.book.specs.Refusals.{enter_refusal}
 use Rattle.book.specs.Calls.{Open, unused, enter_refused, Entered}
@@ -25,6 +27,14 @@ pub record Fine (table : List Record) (n m : ℕ) : Type 0 where
   pub room : n + 2 * m ≤ length table
   pub kept : Kept (columns table) n m
 
+-- the table of an open book is fine
+pub fine : (b : OpenBook) → Fine b.table.now b.entries b.needs
+fine b = record {
+  few = b.few;
+  room = b.room;
+  kept = record { amounts = b.amounts; heads = b.heads; unsent = b.unsent; noted = b.noted; four = b.four; counted = b.counted; arcs = b.arcs };
+}
+
 pub entry_count : (table : List Record) (n m : ℕ) → length (standing table n m).book.entries ≡ n
 entry_count table n m = length-map-range_with_len (amounts_in (columns table)) 0 n
 
@@ -33,6 +43,11 @@ need_count table n m = length-map-range_with_len (need_in (columns table)) 0 m
 
 pub unused_count : (table : List Record) (n m : ℕ) → unused (standing table n m) ≡ length table - n - 2 * m
 unused_count table n m = omega (arith, entry_count table n m, need_count table n m)
+
+-- what is asked of the counts is asked of the book that stands
+pub asked : (table : List Record) (n m x y spare : ℕ) (r : Option EnterRefusal) → spare ≡ unused (standing table n m) → r ≡ enter_refusal x y n spare → enter_refused (standing table n m) x y ≡ r
+asked table n m x y spare r is answer =
+    ap (λ (k : ℕ). enter_refusal x y k (unused (standing table n m))) (entry_count table n m) ∙ ap (enter_refusal x y n) (sym is) ∙ sym answer
 
 -- a question that is passed
 pub passed : {A : Type 0} (b : Bool) (e : A) (rest : Option A) → cond b (Some e) rest ≡ None → (b ≡ false) × (rest ≡ None)
@@ -56,11 +71,15 @@ enters x y entries spare h =
 
 -- the questions put to an entry are passed
 pub entry_passes : (table : List Record) (n m x y : ℕ) → enter_refused (standing table n m) x y ≡ None → Enters x y n (length table - n - 2 * m)
-entry_passes table n m x y none = enters x y n (length table - n - 2 * m) (subst (λ (k : ℕ). enter_refusal x y k (length table - n - 2 * m) ≡ None) (entry_count table n m) (subst (λ (k : ℕ). enter_refusal x y _ k ≡ None) (unused_count table n m) none))
+entry_passes table n m x y none = enters x y n (length table - n - 2 * m) (subst (λ (k : ℕ). enter_refusal x y k (length table - n - 2 * m) ≡ None) (entry_count table n m) (subst (λ (k : ℕ). enter_refusal x y (length (standing table n m).book.entries) k ≡ None) (unused_count table n m) none))
 
 -- the table with one entry more
 abbrev pub entry_written : List Record → ℕ → ℕ → ℕ → List Record
 entry_written table n x y = set table n (as_entry (front table n) x y)
+
+-- what is written to a record that is there is made of that record
+pub written_is : (table : List Record) (n m x y : ℕ) (d r : Record) → n < length table → r ≡ as_entry (get_or table n d) x y → set table n r ≡ entry_written table n x y
+written_is table n m x y d r inside is = ap (set table n) (is ∙ ap (λ (old : Record). as_entry old x y) (get_or_default table n d no_record inside))
 
 pub fine_entry : (table : List Record) (n m x y : ℕ) → Fine table n m → Enters x y n (length table - n - 2 * m) → Fine (entry_written table n x y) (n + 1) m
 fine_entry table n m x y f e =
