@@ -38,7 +38,7 @@ impl<'a> OpenBook<'a> {
     fn unused(&self) -> usize
         ensures { result ≡ unused (open_of self.now) }
     {
-        self.table.len() - self.entries - 2 * self.needs
+        self.record_count() - self.entries - 2 * self.needs
     }
 
     // Enters what an entry earns and costs, and answers its number.
