@@ -12,12 +12,12 @@ pub enum Mark {
     Either,
 }
 
-impl Mark {
-    // The byte that stands for the mark in a table of marks.
-    pub fn byte(self) -> u8
-        ensures { result ≡ mark_byte self }
-    {
-        match self {
+// The byte that stands for the mark in a table of marks.
+impl From<Mark> for u8 {
+    ghost from_gives = { λ mark byte. byte ≡ mark_byte mark };
+
+    fn from(mark: Mark) -> u8 {
+        match mark {
             Mark::In => 1,
             Mark::Out => 2,
             Mark::Either => 3,

@@ -27,6 +27,6 @@ pub(crate) fn mark(work: &[Work], marks: &mut [u8])
     ensures bytes { MarkedByTree (forest work.now) (length work.now) marks.new }
 {
     for node in 0..work.len() {
-        marks[node] = mark_of(work[node].tree).byte();
+        marks[node] = mark_of(work[node].tree).into();
     }
 }
