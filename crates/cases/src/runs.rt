@@ -4,7 +4,7 @@ use row::{Cell, Row};
 use search::{Outcome, Report, RunRefusal};
 use std::process::Abort;
 use std::test::Fail;
-use trees::{Slot, Work};
+use trees::{Lanes, Work};
 
 // What stands in all that a run is lent; no run here writes it.
 const OLD: u64 = 99;
@@ -15,13 +15,11 @@ const OLD_MARK: u8 = 9;
 
 // A record that no run has written.
 fn old_record() -> Work {
-    let slot = Slot {
-        queued: false,
-        node: OLD_PLACE,
-    };
     Work {
-        waiting: slot,
-        orphans: slot,
+        slots: Lanes {
+            waiting: OLD_PLACE,
+            orphans: OLD_PLACE,
+        },
         stage: OLD,
         distance: OLD_PLACE,
         ..Work::blank()
@@ -60,8 +58,8 @@ fn kept_from(
     for i in record..work.len() {
         assert_eq!(rt; work[i].stage, OLD);
         assert_eq!(rt; work[i].distance, OLD_PLACE);
-        assert_eq!(rt; work[i].waiting.node, OLD_PLACE);
-        assert_eq!(rt; work[i].orphans.node, OLD_PLACE);
+        assert_eq!(rt; work[i].slots.waiting, OLD_PLACE);
+        assert_eq!(rt; work[i].slots.orphans, OLD_PLACE);
     }
     for i in word..trail.len() {
         assert_eq!(rt; trail[i], OLD);

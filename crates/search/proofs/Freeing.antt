@@ -6,8 +6,8 @@ use Rattle.network.specs.declared.terminal.Terminal.{Terminal}
 use Rattle.network.specs.Nets.{Ends, Net, Lawful, reversed}
 use Rattle.network.specs.Sides.{near, far}
 use Rattle.network.proofs.Laws.{near_reversed, far_reversed}
-use Rattle.trees.specs.declared.work.Lane.{Lane}
-use Rattle.trees.specs.declared.work.Lane.TheVariants.{Waiting, Orphans}
+use Rattle.trees.specs.declared.lane.Lane.{Lane}
+use Rattle.trees.specs.declared.lane.Lane.TheVariants.{Waiting, Orphans}
 use Rattle.trees.specs.declared.work.Parent.TheVariants.{Orphan, Along}
 use Rattle.trees.specs.Forests.{Forest, with_tree, with_queued, orphaned}
 use Rattle.trees.specs.Trees.{Anchored, Branch, Trees, is_of}

@@ -1,14 +1,16 @@
 -- A node's neighbours, one place after another.
-use Rattle.std.proofs.Common.{◌≡◌, ℕ, ◌+◌, ◌-◌, ◌<◌, length, Some, Ok, sym, refl, ap, ◌∙◌, arith}
+use Rattle.std.proofs.Common.{◌≡◌, ℕ, ◌+◌, ◌<◌, Some, None, Ok, sym, refl, ap, ◌∙◌, subst, subst₂, arith}
 use Rattle.std.specs.List.{slice_get}
 use Rattle.network.specs.declared.terminal.Terminal.{Terminal}
 use Rattle.network.specs.declared.terminal.Terminal.TheVariants.{Source, Sink}
 use Rattle.network.specs.Nets.{Ends, Net, Lawful, reversed, Graph, LawfulGraph}
 use Rattle.network.specs.Answers.{ends_answer}
 use Rattle.network.proofs.Lists.{nth_inside}
-use Rattle.trees.proofs.Places.{standing, Through, few_places, through_next}
+use Rattle.trees.proofs.Places.{standing, Through, through_next}
+use Rattle.std.specs.Iterator.{MakesProgress}
 use Rattle.search.specs.declared.reading.Neighbour.{Neighbour}
-use Rattle.search.specs.Readings.{Beside, placed_one}
+use Rattle.search.specs.declared.reading.Neighbourhood.{Neighbourhood}
+use Rattle.search.specs.Readings.{Beside, placed_one, Stands, StepsOn, HasNode, places_left}
 
 -- what is told of the neighbour along an arc with these ends
 abbrev pub told : Terminal → ℕ → ℕ → ℕ → Neighbour
@@ -36,8 +38,19 @@ placed_standing g Sink u k h b = sym b.back
 pub through_more : (g : Graph) (t : Terminal) (u k : ℕ) (h : Neighbour) (P : ℕ → Ends → Type 0) → LawfulGraph g → (b : Beside g t u k h) → Through g t u k P → P h.outward b.ends → Through g t u (k + 1) P
 through_more g t u k h P l b before this = through_next g t u k h.outward b.ends P l b.out (b.place ∙ ap (λ x. Some x) (placed_standing g t u k h b)) before this
 
-pub beside_few : (g : Graph) (t : Terminal) (u k : ℕ) (h : Neighbour) → LawfulGraph g → u < g.nodes → Beside g t u k h → k < 32768
-beside_few g t u k h l there b = omega (arith, nth_inside (g.arcs u) k (placed_one t h) b.place, few_places g u l there)
+-- what the iterator tells, where it has come to place k
+pub met : {N : Type 0} (value : N → Net) (w : N) (t : Terminal) (u k : ℕ) (s s' : Neighbourhood N) (h : Neighbour) → Stands w t u k s → StepsOn value s (Some h) s' → Beside (value w).graph t u k h × Stands w t u (k + 1) s'
+met {N = N} value w t u k s s' h at (b, on) = (
+  subst₂ (λ (x : N) (y : Terminal). Beside (value x).graph y u k h) at.net at.terminal (subst₂ (λ (x y : ℕ). Beside (value s.net.now).graph s.terminal x y h) at.node at.place b),
+  record { net = on.net ∙ at.net; terminal = on.terminal ∙ at.terminal; node = on.node ∙ at.node; place = on.place ∙ ap (λ (x : ℕ). x + 1) at.place },
+)
 
-pub beside_less : (g : Graph) (t : Terminal) (u k : ℕ) (h : Neighbour) → Beside g t u k h → length (g.arcs u) - (k + 1) < length (g.arcs u) - k
-beside_less g t u k h b = omega (arith, nth_inside (g.arcs u) k (placed_one t h) b.place)
+pub passed : {N : Type 0} (value : N → Net) (w : N) (t : Terminal) (u k : ℕ) (s s' : Neighbourhood N) → Stands w t u k s → StepsOn value s None s' → slice_get ((value w).graph.arcs u) k ≡ None
+passed {N = N} value w t u k s s' at (past, _) =
+    subst (λ (x : N). slice_get ((value x).graph.arcs u) k ≡ None) at.net (subst₂ (λ (x y : ℕ). slice_get ((value s.net.now).graph.arcs x) y ≡ None) at.node at.place past)
+
+-- a neighbour that was told: fewer places are left
+pub goes_on : {N : Type 0} (value : N → Net) (s : Neighbourhood N) (h : Neighbour) (a : ℕ) → HasNode value s → slice_get ((value s.net.now).graph.arcs s.node) s.place ≡ Some a → MakesProgress (HasNode value) (places_left value) s (Some h) (record { net = s.net; terminal = s.terminal; node = s.node; place = s.place + 1 })
+goes_on value s h a there at =
+    let inside = nth_inside ((value s.net.now).graph.arcs s.node) s.place a at in
+    record { on = λ _. (there, tt, omega arith); keeps = there; rests = λ _. tt }

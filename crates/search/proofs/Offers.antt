@@ -36,8 +36,8 @@ found_stands v f f' t u None is found = tt
 found_stands v f f' t u (Some o) is found = offer_stands v f f' t u o.arc is found
 
 -- the nearer of two parents is one of them
-pub found_nearer : (v : Net) (f : Forest) (t : Terminal) (u : ℕ) (best r : Option Offer) (o : Offer) → (r ≡ best) ⊎ (r ≡ Some o) → Found v f t u best → Offered v f t u o.arc → Found v f t u r
+pub found_nearer : (v : Net) (f : Forest) (t : Terminal) (u : ℕ) (best : Option Offer) (r o : Offer) → (Some r ≡ best) ⊎ (r ≡ o) → Found v f t u best → Offered v f t u o.arc → Offered v f t u r.arc
 found_nearer v f t u best r o which found offer = ⊎_elim
-    (λ (is : r ≡ best). subst (Found v f t u) (sym is) found)
-    (λ (is : r ≡ Some o). subst (Found v f t u) (sym is) offer)
+    (λ (is : Some r ≡ best). subst (Found v f t u) (sym is) found)
+    (λ (is : r ≡ o). subst (λ (x : Offer). Offered v f t u x.arc) (sym is) offer)
     which

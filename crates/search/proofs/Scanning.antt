@@ -5,8 +5,8 @@ use Rattle.network.specs.declared.terminal.Terminal.{Terminal}
 use Rattle.network.specs.Nets.{Ends, Net, Lawful}
 use Rattle.network.specs.Sides.{near, far}
 use Rattle.network.proofs.Laws.{far_there}
-use Rattle.trees.specs.declared.work.Lane.{Lane}
-use Rattle.trees.specs.declared.work.Lane.TheVariants.{Waiting, Orphans}
+use Rattle.trees.specs.declared.lane.Lane.{Lane}
+use Rattle.trees.specs.declared.lane.Lane.TheVariants.{Waiting, Orphans}
 use Rattle.trees.specs.declared.work.Parent.TheVariants.{Along}
 use Rattle.trees.specs.Forests.{Forest, with_queued, joined}
 use Rattle.trees.specs.Trees.{Trees, growth_left}

@@ -4,7 +4,7 @@ use Rattle.network.specs.Nets.{Graph, Net, Lawful}
 use Rattle.network.specs.Cuts.{cost}
 use Rattle.network.specs.Sides.{Separate}
 use Rattle.network.proofs.Carrying.{path_lowers, some_amount}
-use Rattle.trees.specs.declared.work.Lane.TheVariants.{Waiting}
+use Rattle.trees.specs.declared.lane.Lane.TheVariants.{Waiting}
 use Rattle.trees.specs.Forests.{Forest}
 use Rattle.trees.specs.Rings.{Empty}
 use Rattle.trees.specs.Trees.{Trees, tree_nodes}

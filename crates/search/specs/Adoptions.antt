@@ -3,7 +3,7 @@ use Rattle.std.specs.Prelude.{◌≡◌, ℕ, true, cond, Some, None, Option, �
 use Rattle.network.specs.declared.terminal.Terminal.{Terminal}
 use Rattle.network.specs.Nets.{Ends, Graph, Net}
 use Rattle.network.specs.Sides.{near, far}
-use Rattle.trees.specs.declared.work.Lane.TheVariants.{Waiting}
+use Rattle.trees.specs.declared.lane.Lane.TheVariants.{Waiting}
 use Rattle.trees.specs.declared.work.Parent.TheVariants.{Orphan}
 use Rattle.trees.specs.declared.work.Work.{Work}
 use Rattle.trees.specs.Forests.{Forest, with_queued}

@@ -1,5 +1,6 @@
 -- What a reader of the contracts must believe of a run.
 pub mod Refusals
+pub mod Tables
 pub mod Runs
 pub mod Trails
 pub mod Readings

@@ -1,11 +1,13 @@
 -- What the search asks of a network: a node's neighbours by place, as the tree of a terminal meets them.
-use Rattle.std.specs.Prelude.{◌≡◌, ℕ, Some, None, Option}
+use Rattle.std.specs.Prelude.{◌≡◌, ℕ, ◌+◌, ◌-◌, ◌<◌, length, Some, None, Option}
+use Rattle.std.specs.Iterator.{Count, at_most}
 use Rattle.std.specs.List.{slice_get}
 use Rattle.network.specs.declared.terminal.Terminal.{Terminal}
 use Rattle.network.specs.declared.terminal.Terminal.TheVariants.{Source, Sink}
-use Rattle.network.specs.Nets.{Ends, Graph}
+use Rattle.network.specs.Nets.{Ends, Graph, Net}
 use Rattle.network.specs.Sides.{near, far}
 use Rattle.search.specs.declared.reading.Neighbour.{Neighbour}
+use Rattle.search.specs.declared.reading.Neighbourhood.{Neighbourhood}
 
 -- the one of two arcs between u and a neighbour that stands at a place of u
 abbrev pub placed_one : Terminal → Neighbour → ℕ
@@ -26,3 +28,27 @@ pub record Beside (g : Graph) (t : Terminal) (u k : ℕ) (h : Neighbour) : Type 
 abbrev pub Neighbours : Graph → Terminal → ℕ → ℕ → Option Neighbour → Type 0
 Neighbours g t u k None = slice_get (g.arcs u) k ≡ None
 Neighbours g t u k (Some h) = Beside g t u k h
+
+-- s tells the neighbours of u in the network w, and has come to place k
+pub record Stands {N : Type 0} (w : N) (t : Terminal) (u k : ℕ) (s : Neighbourhood N) : Type 0 where
+  pub net : s.net.now ≡ w
+  pub terminal : s.terminal ≡ t
+  pub node : s.node ≡ u
+  pub place : s.place ≡ k
+
+-- the node of s is there
+abbrev pub HasNode : {N : Type 0} → (N → Net) → Neighbourhood N → Type 0
+HasNode value s = s.node < (value s.net.now).graph.nodes
+
+-- the places from that of s on
+abbrev pub places_left : {N : Type 0} → (N → Net) → Neighbourhood N → Count
+places_left value s = at_most (length ((value s.net.now).graph.arcs s.node) - s.place)
+
+-- the place after one at which a neighbour stands
+abbrev pub place_after : Option Neighbour → ℕ → ℕ
+place_after None k = k
+place_after (Some _) k = k + 1
+
+-- s gave the neighbour at its place, or none past the last, and stands at the next place
+abbrev pub StepsOn : {N : Type 0} → (N → Net) → Neighbourhood N → Option Neighbour → Neighbourhood N → Type 0
+StepsOn value s r s' = Neighbours (value s.net.now).graph s.terminal s.node s.place r × Stands s.net.now s.terminal s.node (place_after r s.place) s'

@@ -35,3 +35,7 @@ pub record Tracing (v : Net) (f : Forest) (before after : List ℕ) (r : Traced)
 
 abbrev pub PathWritten : Net → Forest → List ℕ → List ℕ → Traced → Type 0
 PathWritten v f before after r = (p : Path) × Tracing v f before after r p
+
+-- the path that r tells of, where it has these arcs
+abbrev pub path_of : Traced → List ℕ → Path
+path_of r arcs = record { amount = r.amount; first = r.first; arcs = arcs }

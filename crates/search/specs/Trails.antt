@@ -1,5 +1,5 @@
 -- The log of a run: the paths that it has carried out, and their words in the trail.
-use Rattle.std.specs.Prelude.{◌≡◌, ℕ, ◌+◌, ◌^◌, ◌<◌, ◌≤◌, Bool, true, false, List, [], ◌++◌, length, take, drop}
+use Rattle.std.specs.Prelude.{◌≡◌, ℕ, ◌+◌, ◌^◌, ◌<◌, ◌≤◌, true, List, [], ◌++◌, length, take, drop}
 use Rattle.network.specs.Nets.{Net}
 use Rattle.network.specs.Cuts.{Selection, cost}
 use Rattle.network.specs.Paths.{Path, Augmenting, carried, Successive, carried_all, gain, path_words, trail_words}
@@ -7,6 +7,7 @@ use Rattle.network.specs.Sides.{Separate}
 use Rattle.trees.specs.Forests.{Forest}
 use Rattle.trees.specs.Trees.{tree_nodes}
 use Rattle.trees.specs.Plantings.{Apart}
+use Rattle.search.specs.Markings.{MarkedByTree}
 use Rattle.search.specs.declared.report.Log.{Log}
 use Rattle.search.specs.declared.report.Outcome.{Outcome}
 use Rattle.search.specs.declared.report.Outcome.TheVariants.{Finished, Paused}
@@ -65,11 +66,16 @@ abbrev pub PauseDue : Net → List ℕ → Log → Type 0
 PauseDue v trail log = ((p : Path) × Augmenting v p) × (length trail < log.words + (v.graph.nodes + 2))
 
 -- the paths of single nodes are carried out, or a pause is due
-abbrev pub Started : Net → List ℕ → Log → Bool → Type 0
-Started v trail log true = Apart v
-Started v trail log false = PauseDue v trail log
+abbrev pub Started : Net → List ℕ → Log → Outcome → Type 0
+Started v trail log Paused = PauseDue v trail log
+Started v trail log Finished = Apart v
 
 -- the search ended because a pause is due, or because the trees hold what is reached from their terminals, with no node in both
 abbrev pub Searched : Net → Forest → List ℕ → Log → Outcome → Type 0
 Searched v f trail log Paused = PauseDue v trail log
 Searched v f trail log Finished = Separate v (tree_nodes f)
+
+-- and what is left of the marks then: they are as they were, or each tells the tree of its node
+abbrev pub Ended : Net → List ℕ → Log → List ℕ → List ℕ → Outcome → Type 0
+Ended v trail log before after Paused = PauseDue v trail log × (after ≡ before)
+Ended v trail log before after Finished = (f : Forest) × Separate v (tree_nodes f) × MarkedByTree f v.graph.nodes after

@@ -2,17 +2,16 @@
 #![tactic(auto)]
 
 mod adoption;
-mod beginning;
 mod carrying;
 mod growth;
 mod marking;
-mod queues;
+mod planting;
 mod reading;
-mod records;
 mod refusal;
 mod report;
 mod running;
 mod starting;
+mod table;
 mod tracing;
 
 pub use refusal::RunRefusal;

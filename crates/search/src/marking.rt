@@ -2,12 +2,12 @@
 ghost use Rattle.std.specs.Prelude.{◌≡◌, length};
 ghost use Rattle.network.specs.declared.terminal.Terminal.TheVariants.{Source, Sink};
 ghost use Rattle.network.specs.Sides.{mark_by};
-ghost use Rattle.trees.specs.Forests.{forest};
 ghost use Rattle.trees.specs.Trees.{is_of};
 ghost use Rattle.search.specs.Markings.{MarkedByTree};
+ghost use Rattle.search.specs.Tables.{forest_of};
 
+use super::table::Table;
 use network::{Mark, Terminal};
-use trees::Work;
 
 // What is said of a node that is in this tree.
 fn mark_of(tree: Option<Terminal>) -> Mark
@@ -21,12 +21,11 @@ fn mark_of(tree: Option<Terminal>) -> Mark
 }
 
 // Writes each node's mark.
-pub(crate) fn mark(work: &[Work], marks: &mut [u8])
-    requires { length marks.old ≡ length work.now }
-    ensures length { length marks.new ≡ length marks.old }
-    ensures bytes { MarkedByTree (forest work.now) (length work.now) marks.new }
+pub(crate) fn mark(table: &Table, marks: &mut [u8])
+    requires { length marks.old ≡ (forest_of table.now).size }
+    ensures { MarkedByTree (forest_of table.now) (forest_of table.now).size marks.new }
 {
-    for node in 0..work.len() {
-        marks[node] = mark_of(work[node].tree).into();
+    for (node, mark) in marks.iter_mut().enumerate() {
+        *mark = mark_of(table.work(node).tree).into();
     }
 }

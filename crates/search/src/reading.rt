@@ -3,12 +3,12 @@ ghost use Rattle.std.specs.Prelude.{◌≡◌, ◌<◌, ◌≤◌};
 ghost use Rattle.network.specs.Nets.{ends_of, taken, shifted};
 ghost use Rattle.network.specs.Sides.{near};
 ghost use Rattle.trees.specs.Trees.{There};
-ghost use Rattle.search.specs.Readings.{Neighbours};
+ghost use Rattle.search.specs.Readings.{HasNode, places_left, StepsOn, Stands};
 
 use network::{Network, Terminal};
 
 // A node beside another, and the arcs between them.
-#[derive(Clone, Copy)]
+#[derive(Clone, Copy, PartialEq, Eq, Debug)]
 pub(crate) struct Neighbour {
     pub(crate) node: usize,
     // along which the tree grows to the neighbour, and from the neighbour
@@ -16,30 +16,54 @@ pub(crate) struct Neighbour {
     pub(crate) inward: usize,
 }
 
-// The neighbour at a place of the node, as the tree of the terminal meets it.
-pub(crate) fn look_beside<N: Network>(
-    net: &N,
+// The neighbours of a node, one place after another, as the tree of the terminal meets them.
+#[derive(Drop)]
+pub(crate) struct Neighbourhood<'a, N> {
+    net: &'a N,
     terminal: Terminal,
     node: usize,
     place: usize,
-) -> Option<Neighbour>
-    requires { node < (N.Network.value net.now).graph.nodes }
-    ensures { Neighbours (N.Network.value net.now).graph terminal node place result }
+}
+
+// The neighbours of a node from its first place on.
+pub(crate) fn neighbours<N: Network>(
+    net: &N,
+    terminal: Terminal,
+    node: usize,
+) -> Neighbourhood<'_, N>
+    ensures { Stands net.now terminal node 0 result }
 {
-    let arc = net.arc_at(node, place).ok()??;
-    let (_, head, reverse) = net.arc_ends(arc).ok()?;
-    Some(match terminal {
-        Terminal::Source => Neighbour {
+    Neighbourhood {
+        net,
+        terminal,
+        node,
+        place: 0,
+    }
+}
+
+impl<'a, N: Network> Iterator for Neighbourhood<'a, N> {
+    type Item = Neighbour;
+
+    ghost can_next = { HasNode N.Network.value };
+
+    ghost next_gives = { StepsOn N.Network.value };
+
+    ghost remaining = { places_left N.Network.value };
+
+    fn next(&mut self) -> Option<Neighbour> {
+        let arc = self.net.arc_at(self.node, self.place).ok()??;
+        let (_, head, reverse) = self.net.arc_ends(arc).ok()?;
+        self.place += 1;
+        let (outward, inward) = match self.terminal {
+            Terminal::Source => (arc, reverse),
+            Terminal::Sink => (reverse, arc),
+        };
+        Some(Neighbour {
             node: head,
-            outward: arc,
-            inward: reverse,
-        },
-        Terminal::Sink => Neighbour {
-            node: head,
-            outward: reverse,
-            inward: arc,
-        },
-    })
+            outward,
+            inward,
+        })
+    }
 }
 
 // What can still be sent along an arc.
@@ -47,7 +71,7 @@ pub(crate) fn residual<N: Network>(net: &N, arc: usize) -> u64
     requires { There (N.Network.value net.now).graph arc }
     ensures { result ≡ (N.Network.value net.now).residual arc }
 {
-    net.arc_residual(arc).unwrap_or(0)
+    net.arc_residual(arc).unwrap()
 }
 
 // The end of an arc that is nearer to the terminal.
@@ -55,10 +79,10 @@ pub(crate) fn near_end<N: Network>(net: &N, terminal: Terminal, arc: usize) -> u
     requires { There (N.Network.value net.now).graph arc }
     ensures { result ≡ near terminal (ends_of (N.Network.value net.now).graph arc) }
 {
-    match (net.arc_ends(arc), terminal) {
-        (Ok((tail, _, _)), Terminal::Source) => tail,
-        (Ok((_, head, _)), Terminal::Sink) => head,
-        (Err(_), _) => 0,
+    let (tail, head, _) = net.arc_ends(arc).unwrap();
+    match terminal {
+        Terminal::Source => tail,
+        Terminal::Sink => head,
     }
 }
 
@@ -67,7 +91,7 @@ pub(crate) fn terminal_residual<N: Network>(net: &N, terminal: Terminal, node: u
     requires { node < (N.Network.value net.now).graph.nodes }
     ensures { result ≡ (N.Network.value net.now).terminal terminal node }
 {
-    net.terminal_residual(terminal, node).unwrap_or(0)
+    net.terminal_residual(terminal, node).unwrap()
 }
 
 // Sends an amount along an arc that has room for it.
@@ -76,7 +100,7 @@ pub(crate) fn shift_along<N: Network>(net: &mut N, arc: usize, amount: u64)
     requires room { amount ≤ (N.Network.value net.old).residual arc }
     ensures { N.Network.value net.new ≡ shifted (N.Network.value net.old) arc amount }
 {
-    let _ = net.shift(arc, amount);
+    net.shift(arc, amount).unwrap();
 }
 
 // Takes an amount from a terminal residual that is as large at least.
@@ -85,5 +109,5 @@ pub(crate) fn take_from<N: Network>(net: &mut N, terminal: Terminal, node: usize
     requires room { amount ≤ (N.Network.value net.old).terminal terminal node }
     ensures { N.Network.value net.new ≡ taken (N.Network.value net.old) terminal node amount }
 {
-    let _ = net.take(terminal, node, amount);
+    net.take(terminal, node, amount).unwrap();
 }

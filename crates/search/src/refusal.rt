@@ -1,5 +1,5 @@
 // Why a run is refused, and the number of each refusal.
-ghost use Rattle.std.specs.Prelude.{◌≡◌};
+ghost use Rattle.std.specs.Prelude.{◌≡◌, Some, None, MatchResult};
 ghost use Rattle.search.specs.Refusals.{question, first_refusal};
 
 // The questions put to a run, in this order.
@@ -12,17 +12,17 @@ pub enum RunRefusal {
 }
 
 impl RunRefusal {
-    // The first question whose answer is no, where there are so many nodes, working records and mark bytes.
-    pub(crate) fn first(nodes: usize, records: usize, marks: usize) -> Option<RunRefusal>
-        ensures { result ≡ first_refusal nodes records marks }
+    // Puts the questions where there are so many nodes, working records and mark bytes: the first whose answer is no refuses.
+    pub(crate) fn check(nodes: usize, records: usize, marks: usize) -> Result<(), RunRefusal>
+        ensures { MatchResult result (λ _. first_refusal nodes records marks ≡ None) (λ refusal. first_refusal nodes records marks ≡ Some refusal) }
     {
         if records < nodes {
-            Some(RunRefusal::FewRecords)
-        } else if marks < nodes {
-            Some(RunRefusal::FewMarks)
-        } else {
-            None
+            return Err(RunRefusal::FewRecords);
         }
+        if marks < nodes {
+            return Err(RunRefusal::FewMarks);
+        }
+        Ok(())
     }
 
     // The number of the question whose answer is no.

@@ -10,14 +10,14 @@ pub enum Outcome {
 }
 
 // The paths that a run has carried out: how many, the sum of their amounts, and the words of the trail that they take.
-#[derive(Clone, Copy)]
+#[derive(Clone, Copy, PartialEq, Eq, Debug, Default)]
 pub struct Log {
     pub paths: u64,
     pub gain: u64,
     pub words: usize,
 }
 
-#[derive(Clone, Copy)]
+#[derive(Clone, Copy, PartialEq, Eq, Debug)]
 pub struct Report {
     pub outcome: Outcome,
     pub log: Log,

@@ -1,55 +1,45 @@
 // The run itself: paths of single nodes, then growth, augmentation and adoption until no path is left or the trail is too short.
 ghost use Rattle.std.specs.Prelude.{◌≡◌, ◌+◌, ◌≤◌, length};
-ghost use Rattle.trees.specs.Forests.{forest};
 ghost use Rattle.trees.specs.Trees.{Trees};
 ghost use Rattle.trees.specs.Surveys.{StagesBelow};
-ghost use Rattle.trees.specs.Searches.{Kept, Bridges};
+ghost use Rattle.trees.specs.Searches.{Bridges};
 ghost use Rattle.trees.specs.Climbs.{Settled};
 ghost use Rattle.search.specs.Runs.{Run, Promise};
-ghost use Rattle.search.specs.Trails.{SomeLogged, SomeFurther, Steps, Bounded, Searched};
+ghost use Rattle.search.specs.Tables.{forest_of};
+ghost use Rattle.search.specs.Trails.{SomeLogged, SomeFurther, Steps, Bounded, Searched, Ended};
 
 use super::adoption::adopt;
-use super::beginning::{clear, no_queues, plant};
 use super::carrying::carry;
 use super::growth::grow;
 use super::marking::mark;
+use super::planting::plant;
 use super::refusal::RunRefusal;
 use super::report::{Log, Outcome, Report};
 use super::starting::{is_short, start};
+use super::table::Table;
 use super::tracing::trace;
 use network::Network;
-use trees::{Queues, Work};
+use trees::Work;
 
 // Carries out the path over a bridge, and writes it behind the words of the log.
 fn augment<N: Network>(
     net: &mut N,
-    work: &mut [Work],
-    queues: &mut Queues,
+    table: &mut Table,
     trail: &mut [u64],
     log: &mut Log,
     bridge: usize,
 )
-    requires trees { Settled (N.Network.value net.old) (forest work.old) }
-    requires kept { Kept work.old queues.old }
-    requires bridge { Bridges (N.Network.value net.old) (forest work.old) bridge }
+    requires trees { Settled (N.Network.value net.old) (forest_of table.old) }
+    requires bridge { Bridges (N.Network.value net.old) (forest_of table.old) bridge }
     requires room { log.old.words + ((N.Network.value net.old).graph.nodes + 2) ≤ length trail.old }
     requires bounded { Bounded (N.Network.value net.old) log.old }
     ensures further { SomeFurther (N.Network.value net.old) (N.Network.value net.new) trail.old trail.new log.old log.new }
-    ensures trees { Trees (N.Network.value net.new) (forest work.new) }
-    ensures kept { Kept work.new queues.new }
-    ensures stages { (forest work.new).stage ≡ (forest work.old).stage }
+    ensures trees { Trees (N.Network.value net.new) (forest_of table.new) }
+    ensures stages { (forest_of table.new).stage ≡ (forest_of table.old).stage }
 {
-    let path = trace(net, work, bridge, &mut trail[log.words..]);
+    let path = trace(net, table, bridge, &mut trail[log.words..]);
     let from = log.words + 3;
-    carry(
-        net,
-        work,
-        queues,
-        path.first,
-        path.last,
-        path.amount,
-        &trail[from..from + path.arcs],
-    );
+    carry(net, table, path, &trail[from..from + path.arcs]);
     *log = log.with(path.arcs, path.amount);
 }
 
@@ -57,47 +47,49 @@ fn augment<N: Network>(
 // grow, or the trail is too short for another path.
 fn search_on<N: Network>(
     net: &mut N,
-    work: &mut [Work],
-    queues: &mut Queues,
+    table: &mut Table,
     trail: &mut [u64],
     log: &mut Log,
 ) -> Outcome
-    requires trees { Settled (N.Network.value net.old) (forest work.old) }
-    requires kept { Kept work.old queues.old }
-    requires stages { StagesBelow (forest work.old) (log.old.paths + 1) }
+    requires trees { Settled (N.Network.value net.old) (forest_of table.old) }
+    requires stages { StagesBelow (forest_of table.old) (log.old.paths + 1) }
     requires words { log.old.words ≤ length trail.old }
     requires bounded { Bounded (N.Network.value net.old) log.old }
+    ensures size { (forest_of table.new).size ≡ (N.Network.value net.old).graph.nodes }
     ensures steps { Steps (N.Network.value net.old) (N.Network.value net.new) trail.old trail.new log.old log.new }
-    ensures searched { Searched (N.Network.value net.new) (forest work.new) trail.new log.new result }
+    ensures searched { Searched (N.Network.value net.new) (forest_of table.new) trail.new log.new result }
 {
     let count = net.node_count();
-    while let Some(bridge) = grow(net, work, queues) {
+    while let Some(bridge) = grow(net, table) {
         if is_short(trail.len(), log.words, count) {
             return Outcome::Paused;
         }
-        augment(net, work, queues, trail, log, bridge);
-        adopt(net, work, queues, log.paths);
+        augment(net, table, trail, log, bridge);
+        adopt(net, table, log.paths);
     }
     Outcome::Finished
 }
 
-// A run over a working table with one record for each node.
-fn search<N: Network>(net: &mut N, work: &mut [Work], trail: &mut [u64]) -> Report
-    requires { length work.old ≡ (N.Network.value net.old).graph.nodes }
+// A run over a working table with one record for each node, and as many mark bytes.
+fn search<N: Network>(net: &mut N, work: &mut [Work], trail: &mut [u64], marks: &mut [u8]) -> Report
+    requires records { length work.old ≡ (N.Network.value net.old).graph.nodes }
+    requires bytes { length marks.old ≡ (N.Network.value net.old).graph.nodes }
     ensures logged { SomeLogged (N.Network.value net.old) (N.Network.value net.new) trail.old trail.new result.log }
-    ensures searched { Searched (N.Network.value net.new) (forest work.new) trail.new result.log result.outcome }
+    ensures ended { Ended (N.Network.value net.new) trail.new result.log marks.old marks.new result.outcome }
 {
-    let mut log = Log::empty();
-    if !start(net, trail, &mut log) {
+    let mut log = Log::default();
+    if start(net, trail, &mut log) == Outcome::Paused {
         return Report {
             outcome: Outcome::Paused,
             log,
         };
     }
-    clear(work);
-    let mut queues = no_queues();
-    plant(net, work, &mut queues);
-    let outcome = search_on(net, work, &mut queues, trail, &mut log);
+    let mut table = Table::cleared(work);
+    plant(net, &mut table);
+    let outcome = search_on(net, &mut table, trail, &mut log);
+    if outcome == Outcome::Finished {
+        mark(&table, marks);
+    }
     Report { outcome, log }
 }
 
@@ -113,13 +105,6 @@ pub fn run<N: Network>(
     ensures promise { Promise (N.Network.value net.old) result (N.Network.value net.new) (record { work = work.new; trail = trail.new; marks = marks.new }) }
 {
     let count = net.node_count();
-    if let Some(refusal) = RunRefusal::first(count, work.len(), marks.len()) {
-        return Err(refusal);
-    }
-    let report = search(net, &mut work[..count], trail);
-    match report.outcome {
-        Outcome::Finished => mark(&work[..count], &mut marks[..count]),
-        Outcome::Paused => {}
-    }
-    Ok(report)
+    RunRefusal::check(count, work.len(), marks.len())?;
+    Ok(search(net, &mut work[..count], trail, &mut marks[..count]))
 }

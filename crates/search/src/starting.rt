@@ -4,21 +4,10 @@ ghost use Rattle.network.specs.declared.terminal.Terminal.TheVariants.{Source, S
 ghost use Rattle.search.specs.Trails.{no_log, Bounded, Further, node_path, SomeLogged, Started};
 
 use super::reading::{take_from, terminal_residual};
-use super::report::Log;
+use super::report::{Log, Outcome};
 use network::{Network, Terminal};
 
 impl Log {
-    // The log of no path.
-    pub(crate) fn empty() -> Log
-        ensures { result ≡ no_log }
-    {
-        Log {
-            paths: 0,
-            gain: 0,
-            words: 0,
-        }
-    }
-
     // The log with one path more, which has so many arcs and sends the amount.
     pub(crate) fn with(self, arcs: usize, amount: u64) -> Log
         requires paths { self.paths < 2 ^ 63 }
@@ -71,8 +60,8 @@ fn pass_through<N: Network>(net: &mut N, trail: &mut [u64], log: &mut Log, node:
     *log = log.with(0, amount);
 }
 
-// Carries out the path of every single node whose residuals are both positive. False if the trail is too short for one of them.
-pub(crate) fn start<N: Network>(net: &mut N, trail: &mut [u64], log: &mut Log) -> bool
+// Carries out the path of every single node whose residuals are both positive, unless the trail is too short for one of them.
+pub(crate) fn start<N: Network>(net: &mut N, trail: &mut [u64], log: &mut Log) -> Outcome
     requires new { log.old ≡ no_log }
     ensures logged { SomeLogged (N.Network.value net.old) (N.Network.value net.new) trail.old trail.new log.new }
     ensures started { Started (N.Network.value net.new) trail.new log.new result }
@@ -82,10 +71,10 @@ pub(crate) fn start<N: Network>(net: &mut N, trail: &mut [u64], log: &mut Log) -
         let amount = amount_through(net, node);
         if amount > 0 {
             if is_short(trail.len(), log.words, count) {
-                return false;
+                return Outcome::Paused;
             }
             pass_through(net, trail, log, node, amount);
         }
     }
-    true
+    Outcome::Finished
 }

@@ -3,25 +3,26 @@ ghost use Rattle.std.specs.Prelude.{◌≡◌, ◌+◌, ◌<◌, ◌≤◌, leng
 ghost use Rattle.std.specs.List.{AllByRecursion};
 ghost use Rattle.network.specs.declared.terminal.Terminal.TheVariants.{Source};
 ghost use Rattle.network.specs.Paths.{Smallest};
-ghost use Rattle.trees.specs.Forests.{forest};
 ghost use Rattle.trees.specs.Trees.{There};
 ghost use Rattle.trees.specs.Searches.{Bridges};
 ghost use Rattle.trees.specs.Climbs.{Settled, ClimbsFit, ClimbsLeaveOne, ClimbWritten, DescentWritten, residuals};
 ghost use Rattle.search.specs.Tracings.{Hops, WayWritten, PathWritten};
+ghost use Rattle.search.specs.Tables.{forest_of};
 
 use super::reading::{near_end, residual, terminal_residual};
+use super::table::Table;
 use network::{Network, Terminal};
-use trees::{Parent, Work};
+use trees::Parent;
 
 // One step of a climb: the arc that a node hangs from, and the node above it.
-#[derive(Clone, Copy)]
+#[derive(Clone, Copy, PartialEq, Eq, Debug)]
 struct Hop {
     arc: usize,
     node: usize,
 }
 
 // How many arcs a path has, and its first and last node.
-#[derive(Clone, Copy)]
+#[derive(Clone, Copy, PartialEq, Eq, Debug)]
 struct Way {
     count: usize,
     first: usize,
@@ -29,7 +30,7 @@ struct Way {
 }
 
 // A path that was traced: how many arcs it has, the amount that it sends, its first and its last node.
-#[derive(Clone, Copy)]
+#[derive(Clone, Copy, PartialEq, Eq, Debug)]
 pub(crate) struct Traced {
     pub(crate) arcs: usize,
     pub(crate) amount: u64,
@@ -38,13 +39,13 @@ pub(crate) struct Traced {
 }
 
 // The step up from a node of the terminal's tree; none from a child of the terminal.
-fn step_up<N: Network>(net: &N, work: &[Work], terminal: Terminal, node: usize) -> Option<Hop>
-    requires trees { Settled (N.Network.value net.now) (forest work.now) }
+fn step_up<N: Network>(net: &N, table: &Table, terminal: Terminal, node: usize) -> Option<Hop>
+    requires trees { Settled (N.Network.value net.now) (forest_of table.now) }
     requires there { node < (N.Network.value net.now).graph.nodes }
-    requires tree { (forest work.now).tree node ≡ Some terminal }
-    ensures { Hops (N.Network.value net.now).graph (forest work.now).parent terminal node result }
+    requires tree { (forest_of table.now).tree node ≡ Some terminal }
+    ensures { Hops (N.Network.value net.now).graph (forest_of table.now).parent terminal node result }
 {
-    match work[node].parent {
+    match table.work(node).parent {
         Parent::Along(arc) => Some(Hop {
             arc,
             node: near_end(net, terminal, arc),
@@ -57,20 +58,20 @@ fn step_up<N: Network>(net: &N, work: &[Work], terminal: Terminal, node: usize) 
 // are, and the terminal's child where the climb ends.
 fn climb<N: Network>(
     net: &N,
-    work: &[Work],
+    table: &Table,
     terminal: Terminal,
     node: usize,
     arcs: &mut [u64],
 ) -> (usize, usize)
-    requires trees { Settled (N.Network.value net.now) (forest work.now) }
+    requires trees { Settled (N.Network.value net.now) (forest_of table.now) }
     requires there { node < (N.Network.value net.now).graph.nodes }
-    requires tree { (forest work.now).tree node ≡ Some terminal }
-    requires room { ClimbsFit (N.Network.value net.now).graph (forest work.now).parent terminal node (length arcs.old) }
-    ensures { ClimbWritten (N.Network.value net.now).graph (forest work.now).parent terminal node arcs.old arcs.new result }
+    requires tree { (forest_of table.now).tree node ≡ Some terminal }
+    requires room { ClimbsFit (N.Network.value net.now).graph (forest_of table.now).parent terminal node (length arcs.old) }
+    ensures { ClimbWritten (N.Network.value net.now).graph (forest_of table.now).parent terminal node arcs.old arcs.new result }
 {
     let mut at = node;
     let mut steps = 0;
-    while let Some(hop) = step_up(net, work, terminal, at) {
+    while let Some(hop) = step_up(net, table, terminal, at) {
         arcs[steps] = hop.arc as u64;
         steps += 1;
         at = hop.node;
@@ -80,31 +81,31 @@ fn climb<N: Network>(
 
 // Writes the arcs from the source down to a node of its tree, where there is room for one more; tells how many they are, and the
 // source's child where they begin.
-fn descend<N: Network>(net: &N, work: &[Work], node: usize, arcs: &mut [u64]) -> (usize, usize)
-    requires trees { Settled (N.Network.value net.now) (forest work.now) }
+fn descend<N: Network>(net: &N, table: &Table, node: usize, arcs: &mut [u64]) -> (usize, usize)
+    requires trees { Settled (N.Network.value net.now) (forest_of table.now) }
     requires there { node < (N.Network.value net.now).graph.nodes }
-    requires tree { (forest work.now).tree node ≡ Some Source }
-    requires room { ClimbsLeaveOne (N.Network.value net.now).graph (forest work.now).parent Source node (length arcs.old) }
-    ensures written { DescentWritten (N.Network.value net.now).graph (forest work.now).parent Source node arcs.old arcs.new result }
+    requires tree { (forest_of table.now).tree node ≡ Some Source }
+    requires room { ClimbsLeaveOne (N.Network.value net.now).graph (forest_of table.now).parent Source node (length arcs.old) }
+    ensures written { DescentWritten (N.Network.value net.now).graph (forest_of table.now).parent Source node arcs.old arcs.new result }
     ensures left { result.0 < length arcs.new }
 {
-    let (steps, root) = climb(net, work, Terminal::Source, node, arcs);
+    let (steps, root) = climb(net, table, Terminal::Source, node, arcs);
     arcs[..steps].reverse();
     (steps, root)
 }
 
 // Writes the arcs of the path over a bridge: up the source's tree, turned round, over the bridge, and up the sink's tree.
-fn trace_arcs<N: Network>(net: &N, work: &[Work], bridge: usize, arcs: &mut [u64]) -> Way
-    requires trees { Settled (N.Network.value net.now) (forest work.now) }
-    requires bridge { Bridges (N.Network.value net.now) (forest work.now) bridge }
+fn trace_arcs<N: Network>(net: &N, table: &Table, bridge: usize, arcs: &mut [u64]) -> Way
+    requires trees { Settled (N.Network.value net.now) (forest_of table.now) }
+    requires bridge { Bridges (N.Network.value net.now) (forest_of table.now) bridge }
     requires room { (N.Network.value net.now).graph.nodes ≤ length arcs.old + 1 }
-    ensures { WayWritten (N.Network.value net.now) (forest work.now) arcs.old arcs.new result }
+    ensures { WayWritten (N.Network.value net.now) (forest_of table.now) arcs.old arcs.new result }
 {
     let tail = near_end(net, Terminal::Source, bridge);
-    let (below, first) = descend(net, work, tail, arcs);
+    let (below, first) = descend(net, table, tail, arcs);
     arcs[below] = bridge as u64;
     let head = near_end(net, Terminal::Sink, bridge);
-    let (above, last) = climb(net, work, Terminal::Sink, head, &mut arcs[below + 1..]);
+    let (above, last) = climb(net, table, Terminal::Sink, head, &mut arcs[below + 1..]);
     Way {
         count: below + 1 + above,
         first,
@@ -129,13 +130,13 @@ fn smallest<N: Network>(net: &N, first: usize, last: usize, arcs: &[u64]) -> u64
 }
 
 // Writes the words of the path over a bridge.
-pub(crate) fn trace<N: Network>(net: &N, work: &[Work], bridge: usize, words: &mut [u64]) -> Traced
-    requires trees { Settled (N.Network.value net.now) (forest work.now) }
-    requires bridge { Bridges (N.Network.value net.now) (forest work.now) bridge }
+pub(crate) fn trace<N: Network>(net: &N, table: &Table, bridge: usize, words: &mut [u64]) -> Traced
+    requires trees { Settled (N.Network.value net.now) (forest_of table.now) }
+    requires bridge { Bridges (N.Network.value net.now) (forest_of table.now) bridge }
     requires room { (N.Network.value net.now).graph.nodes + 2 ≤ length words.old }
-    ensures { PathWritten (N.Network.value net.now) (forest work.now) words.old words.new result }
+    ensures { PathWritten (N.Network.value net.now) (forest_of table.now) words.old words.new result }
 {
-    let Way { count, first, last } = trace_arcs(net, work, bridge, &mut words[3..]);
+    let Way { count, first, last } = trace_arcs(net, table, bridge, &mut words[3..]);
     let amount = smallest(net, first, last, &words[3..3 + count]);
     words[0] = count as u64;
     words[1] = amount;

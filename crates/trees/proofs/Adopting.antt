@@ -2,7 +2,7 @@
 use Rattle.std.proofs.Common.{◌≡◌, ℕ, true, Some, sym, refl, ap, ◌∙◌, subst}
 use Rattle.network.specs.declared.terminal.Terminal.{Terminal}
 use Rattle.network.specs.Nets.{Net, Lawful}
-use Rattle.trees.specs.declared.work.Lane.TheVariants.{Orphans}
+use Rattle.trees.specs.declared.lane.Lane.TheVariants.{Orphans}
 use Rattle.trees.specs.declared.work.Parent.TheVariants.{Orphan, Along}
 use Rattle.trees.specs.Forests.{Forest, with_parent, with_queued, with_stage}
 use Rattle.trees.specs.Trees.{Trees}

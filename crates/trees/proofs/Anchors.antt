@@ -5,7 +5,7 @@ use Rattle.network.specs.declared.terminal.Terminal.{Terminal}
 use Rattle.network.specs.Nets.{Ends, Graph, Net, Lawful, at}
 use Rattle.network.specs.Sides.{near}
 use Rattle.network.proofs.Laws.{one_ends, near_there}
-use Rattle.trees.specs.declared.work.Lane.{Lane}
+use Rattle.trees.specs.declared.lane.Lane.{Lane}
 use Rattle.trees.specs.declared.work.Parent.{Parent}
 use Rattle.trees.specs.declared.work.Parent.TheVariants.{Orphan, Root, Along}
 use Rattle.trees.specs.Forests.{Forest, with_tree, with_parent, with_queued, with_stage, orphaned}

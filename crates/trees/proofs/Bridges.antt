@@ -10,7 +10,7 @@ use Rattle.network.specs.Paths.{Path, Chain, passed, last_node, on_the_way, Smal
 use Rattle.network.proofs.Lists.{not_again, distinct_one, all_nth, distinct_cons, nth_nil}
 use Rattle.network.proofs.Laws.{ends_are, head_there, one_ends, near_there}
 use Rattle.network.proofs.Searching.{smallest}
-use Rattle.trees.specs.declared.work.Lane.TheVariants.{Orphans}
+use Rattle.trees.specs.declared.lane.Lane.TheVariants.{Orphans}
 use Rattle.trees.specs.declared.work.Parent.TheVariants.{Root}
 use Rattle.trees.specs.Forests.{Forest}
 use Rattle.trees.specs.Rings.{Empty}

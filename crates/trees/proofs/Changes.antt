@@ -5,8 +5,8 @@ use Rattle.network.specs.declared.terminal.Terminal.{Terminal}
 use Rattle.network.specs.Nets.{Ends, Net, Lawful, at}
 use Rattle.network.specs.Sides.{near, far}
 use Rattle.network.proofs.Laws.{near_there}
-use Rattle.trees.specs.declared.work.Lane.{Lane}
-use Rattle.trees.specs.declared.work.Lane.TheVariants.{Waiting, Orphans}
+use Rattle.trees.specs.declared.lane.Lane.{Lane}
+use Rattle.trees.specs.declared.lane.Lane.TheVariants.{Waiting, Orphans}
 use Rattle.trees.specs.declared.work.Parent.{Parent}
 use Rattle.trees.specs.declared.work.Parent.TheVariants.{Orphan, Root, Along}
 use Rattle.trees.specs.Forests.{Forest, with_tree, with_parent, with_queued, joined, orphaned}

@@ -5,7 +5,7 @@ use Rattle.network.specs.declared.terminal.Terminal.{Terminal}
 use Rattle.network.specs.declared.terminal.Terminal.TheVariants.{Source, Sink}
 use Rattle.network.specs.Nets.{Ends, Net, Lawful, shifted}
 use Rattle.network.specs.Sides.{far}
-use Rattle.trees.specs.declared.work.Lane.TheVariants.{Waiting}
+use Rattle.trees.specs.declared.lane.Lane.TheVariants.{Waiting}
 use Rattle.trees.specs.declared.work.Parent.{Parent}
 use Rattle.trees.specs.declared.work.Parent.TheVariants.{Orphan, Root, Along}
 use Rattle.trees.specs.Forests.{Forest, orphaned}

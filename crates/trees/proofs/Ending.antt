@@ -7,7 +7,7 @@ use Rattle.network.specs.Nets.{Net, Lawful}
 use Rattle.network.specs.Sides.{near, far, Reached, Separate}
 use Rattle.network.specs.Sides.Reached.{root, along}
 use Rattle.network.proofs.Laws.{near_there}
-use Rattle.trees.specs.declared.work.Lane.TheVariants.{Waiting, Orphans}
+use Rattle.trees.specs.declared.lane.Lane.TheVariants.{Waiting, Orphans}
 use Rattle.trees.specs.declared.work.Parent.TheVariants.{Orphan, Root}
 use Rattle.trees.specs.Forests.{Forest}
 use Rattle.trees.specs.Rings.{Empty}

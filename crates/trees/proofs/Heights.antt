@@ -9,7 +9,7 @@ use Rattle.network.specs.Sides.{near}
 use Rattle.network.proofs.Lists.{distinct_one, all_nth, distinct_append, distinct_cons}
 use Rattle.network.proofs.Pigeons.{pigeons}
 use Rattle.network.proofs.Laws.{ends_are, near_there}
-use Rattle.trees.specs.declared.work.Lane.TheVariants.{Orphans}
+use Rattle.trees.specs.declared.lane.Lane.TheVariants.{Orphans}
 use Rattle.trees.specs.declared.work.Parent.TheVariants.{Root}
 use Rattle.trees.specs.Forests.{Forest}
 use Rattle.trees.specs.Rings.{Empty}

@@ -1,8 +1,8 @@
 -- A node picked from a queue, and put back.
 use Rattle.std.proofs.Common.{◌≡◌, ℕ, ◌<◌, Bool, true, false, None, sym, ap, ◌∙◌, subst, arith}
 use Rattle.network.specs.Nets.{Net}
-use Rattle.trees.specs.declared.work.Lane.{Lane}
-use Rattle.trees.specs.declared.work.Lane.TheVariants.{Waiting, Orphans}
+use Rattle.trees.specs.declared.lane.Lane.{Lane}
+use Rattle.trees.specs.declared.lane.Lane.TheVariants.{Waiting, Orphans}
 use Rattle.trees.specs.Forests.{Forest, with_queued}
 use Rattle.trees.specs.Trees.{Trees, growth_left, adoption_left}
 use Rattle.trees.specs.Surveys.{Survey}

@@ -6,7 +6,7 @@ use Rattle.network.specs.declared.terminal.Terminal.{Terminal}
 use Rattle.network.specs.declared.terminal.Terminal.TheVariants.{Source, Sink}
 use Rattle.network.specs.Nets.{Net}
 use Rattle.network.specs.Sides.{near}
-use Rattle.trees.specs.declared.work.Lane.TheVariants.{Waiting, Orphans}
+use Rattle.trees.specs.declared.lane.Lane.TheVariants.{Waiting, Orphans}
 use Rattle.trees.specs.declared.work.Parent.TheVariants.{Root}
 use Rattle.trees.specs.Forests.{Forest, cleared, joined}
 use Rattle.trees.specs.Trees.{Trees}

@@ -6,7 +6,7 @@ use Rattle.network.specs.declared.terminal.Terminal.TheVariants.{Source, Sink}
 use Rattle.network.specs.Nets.{Ends, Net, Lawful, reversed, taken, shifted}
 use Rattle.network.specs.Sides.{near, far}
 use Rattle.network.proofs.Laws.{one_ends, residuals, taken_le}
-use Rattle.trees.specs.declared.work.Lane.TheVariants.{Orphans}
+use Rattle.trees.specs.declared.lane.Lane.TheVariants.{Orphans}
 use Rattle.trees.specs.declared.work.Parent.TheVariants.{Orphan, Along}
 use Rattle.trees.specs.Forests.{Forest, orphaned}
 use Rattle.trees.specs.Trees.{Branch, Trees, Onward}

@@ -4,7 +4,7 @@ use Rattle.network.specs.declared.terminal.Terminal.{Terminal}
 use Rattle.network.specs.declared.terminal.Terminal.TheVariants.{Source, Sink}
 use Rattle.network.specs.Nets.{Graph, Net}
 use Rattle.network.specs.Paths.{last_node, on_the_way, Smallest, Augmenting}
-use Rattle.trees.specs.declared.work.Lane.TheVariants.{Orphans}
+use Rattle.trees.specs.declared.lane.Lane.TheVariants.{Orphans}
 use Rattle.trees.specs.declared.work.Parent.{Parent}
 use Rattle.trees.specs.declared.work.Parent.TheVariants.{Root}
 use Rattle.trees.specs.Forests.{Forest}

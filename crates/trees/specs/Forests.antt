@@ -2,13 +2,12 @@
 use Rattle.std.specs.Prelude.{ℕ, Bool, true, false, List, length, Some, None, Option, slice_index_or}
 use Rattle.network.specs.declared.terminal.Terminal.{Terminal}
 use Rattle.network.specs.Nets.{at}
-use Rattle.trees.specs.declared.ring.Queues.{Queues}
+use Rattle.trees.specs.declared.lane.Lane.{Lane}
+use Rattle.trees.specs.declared.lane.Lane.TheVariants.{Waiting, Orphans}
+use Rattle.trees.specs.declared.lane.Lanes.{Lanes}
 use Rattle.trees.specs.declared.ring.Ring.{Ring}
-use Rattle.trees.specs.declared.work.Lane.{Lane}
-use Rattle.trees.specs.declared.work.Lane.TheVariants.{Waiting, Orphans}
 use Rattle.trees.specs.declared.work.Parent.{Parent}
 use Rattle.trees.specs.declared.work.Parent.TheVariants.{Orphan}
-use Rattle.trees.specs.declared.work.Slot.{Slot}
 use Rattle.trees.specs.declared.work.Work.{Work}
 
 pub record Forest : Type 0 where
@@ -21,46 +20,39 @@ pub record Forest : Type 0 where
   -- the stage of adoption in which a node was last found to hang from its terminal
   pub stage : ℕ → ℕ
 
-abbrev pub empty_slot : Slot
-empty_slot = record { queued = false; node = 0 }
+-- the same value for each queue
+abbrev pub both : {A : Type 0} → A → Lanes A
+both x = record { waiting = x; orphans = x }
 
 -- the record of a node in no tree and no queue; past the end of a table too, where nothing reads it
 abbrev pub blank : Work
-blank = record { tree = None; parent = Orphan; waiting = empty_slot; orphans = empty_slot; stage = 0; distance = 0 }
+blank = record { tree = None; parent = Orphan; queued = both false; slots = both 0; stage = 0; distance = 0 }
 
 abbrev pub work_at : List Work → ℕ → Work
 work_at ws u = slice_index_or ws u blank
 
-abbrev pub slot_of : Lane → Work → Slot
-slot_of Waiting w = w.waiting
-slot_of Orphans w = w.orphans
+-- the value for a queue
+abbrev pub lane_of : {A : Type 0} → Lane → Lanes A → A
+lane_of Waiting p = p.waiting
+lane_of Orphans p = p.orphans
 
-abbrev pub ring_of : Lane → Queues → Ring
-ring_of Waiting q = q.waiting
-ring_of Orphans q = q.orphans
-
--- w with another slot of the queue l
-abbrev pub put_slot : Lane → Slot → Work → Work
-put_slot Waiting s w = record { tree = w.tree; parent = w.parent; waiting = s; orphans = w.orphans; stage = w.stage; distance = w.distance }
-put_slot Orphans s w = record { tree = w.tree; parent = w.parent; waiting = w.waiting; orphans = s; stage = w.stage; distance = w.distance }
-
--- q with another ring of the queue l
-abbrev pub put_ring : Lane → Ring → Queues → Queues
-put_ring Waiting r q = record { waiting = r; orphans = q.orphans }
-put_ring Orphans r q = record { waiting = q.waiting; orphans = r }
+-- p with another value for a queue
+abbrev pub put_lane : {A : Type 0} → Lane → A → Lanes A → Lanes A
+put_lane Waiting x p = record { waiting = x; orphans = p.orphans }
+put_lane Orphans x p = record { waiting = p.waiting; orphans = x }
 
 abbrev pub forest : List Work → Forest
 forest ws = record {
   size = length ws;
   tree = λ u. (work_at ws u).tree;
   parent = λ u. (work_at ws u).parent;
-  queued = λ l u. (slot_of l (work_at ws u)).queued;
+  queued = λ l u. lane_of l (work_at ws u).queued;
   stage = λ u. (work_at ws u).stage;
 }
 
 -- the nodes at the places of a queue's ring
 abbrev pub slots : List Work → Lane → ℕ → ℕ
-slots ws l i = (slot_of l (work_at ws i)).node
+slots ws l i = lane_of l (work_at ws i).slots
 
 -- n nodes in no tree and no queue
 abbrev pub cleared : ℕ → Forest
@@ -69,8 +61,8 @@ cleared n = record { size = n; tree = λ _. None; parent = λ _. Orphan; queued 
 abbrev pub empty_ring : Ring
 empty_ring = record { head = 0; count = 0 }
 
-abbrev pub no_queues : Queues
-no_queues = record { waiting = empty_ring; orphans = empty_ring }
+abbrev pub no_queues : Lanes Ring
+no_queues = both empty_ring
 
 -- f with y for the queue l
 abbrev pub at_lane : {A : Type 0} → (Lane → A) → Lane → A → Lane → A

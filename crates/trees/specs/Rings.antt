@@ -1,10 +1,10 @@
 -- A queue as a ring: its places lie in the records, and it holds exactly the nodes that are marked as queued.
 use Rattle.std.specs.Prelude.{◌≡◌, ℕ, ◌+◌, ◌-◌, ◌<◌, ◌≤◌, Bool, true, false, cond, Some, None, Option, nat_lt}
 use Rattle.network.specs.Cuts.{sum_below}
-use Rattle.trees.specs.declared.ring.Queues.{Queues}
+use Rattle.trees.specs.declared.lane.Lane.{Lane}
+use Rattle.trees.specs.declared.lane.Lanes.{Lanes}
 use Rattle.trees.specs.declared.ring.Ring.{Ring}
-use Rattle.trees.specs.declared.work.Lane.{Lane}
-use Rattle.trees.specs.Forests.{Forest, ring_of, with_queued}
+use Rattle.trees.specs.Forests.{Forest, lane_of, with_queued}
 
 -- how many numbers below n a set holds
 abbrev pub tally : ℕ → (ℕ → Bool) → ℕ
@@ -23,8 +23,8 @@ pub record Held (n : ℕ) (m : ℕ → Bool) (slot : ℕ → ℕ) (r : Ring) : T
   pub distinct : (i j : ℕ) → i < r.count → j < r.count → slot (wrap n (r.head + i)) ≡ slot (wrap n (r.head + j)) → i ≡ j
 
 -- both queues hold what they say
-abbrev pub Sound : Forest → (Lane → ℕ → ℕ) → Queues → Type 0
-Sound f slot q = (l : Lane) → Held f.size (f.queued l) (slot l) (ring_of l q)
+abbrev pub Sound : Forest → (Lane → ℕ → ℕ) → Lanes Ring → Type 0
+Sound f slot q = (l : Lane) → Held f.size (f.queued l) (slot l) (lane_of l q)
 
 -- nobody is in the queue
 abbrev pub Empty : Forest → Lane → Type 0

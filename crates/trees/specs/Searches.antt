@@ -1,16 +1,17 @@
 -- What each step of the search needs and leaves: the trees over a network, kept in a table and its queues.
 use Rattle.std.specs.Prelude.{◌≡◌, ℕ, true, List, Some, None, Option}
 use Rattle.network.specs.Nets.{Ends, Net}
-use Rattle.trees.specs.declared.ring.Queues.{Queues}
-use Rattle.trees.specs.declared.work.Lane.{Lane}
-use Rattle.trees.specs.declared.work.Lane.TheVariants.{Waiting, Orphans}
+use Rattle.trees.specs.declared.lane.Lanes.{Lanes}
+use Rattle.trees.specs.declared.ring.Ring.{Ring}
+use Rattle.trees.specs.declared.lane.Lane.{Lane}
+use Rattle.trees.specs.declared.lane.Lane.TheVariants.{Waiting, Orphans}
 use Rattle.trees.specs.declared.work.Work.{Work}
 use Rattle.trees.specs.Forests.{Forest, forest, slots, with_queued}
 use Rattle.trees.specs.Rings.{Sound, Empty}
 use Rattle.trees.specs.Trees.{Trees, Bridge}
 
 -- the queues hold what they say
-abbrev pub Kept : List Work → Queues → Type 0
+abbrev pub Kept : List Work → Lanes Ring → Type 0
 Kept ws q = Sound (forest ws) (slots ws) q
 
 -- the trees, with a node that counts as queued since it has just been picked

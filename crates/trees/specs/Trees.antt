@@ -6,7 +6,7 @@ use Rattle.network.specs.declared.terminal.Terminal.TheVariants.{Source, Sink}
 use Rattle.network.specs.Nets.{Ends, Graph, Net}
 use Rattle.network.specs.Cuts.{Selection, sum_below}
 use Rattle.network.specs.Sides.{near, far}
-use Rattle.trees.specs.declared.work.Lane.TheVariants.{Waiting, Orphans}
+use Rattle.trees.specs.declared.lane.Lane.TheVariants.{Waiting, Orphans}
 use Rattle.trees.specs.declared.work.Parent.{Parent}
 use Rattle.trees.specs.declared.work.Parent.TheVariants.{Orphan, Root, Along}
 use Rattle.trees.specs.Forests.{Forest}

@@ -1,20 +1,19 @@
-use Rattle.std.proofs.Common.{◌≡◌, sym, refl, ap, ◌∙◌, subst, arith}
+use Rattle.std.proofs.Common.{◌≡◌, sym, ap, ◌∙◌, subst, arith}
 use Rattle.trees.specs.declared.work.Parent.TheVariants.{Along}
-use Rattle.trees.specs.Forests.{Forest, forest, with_parent, with_stage}
+use Rattle.trees.specs.Forests.{Forest, with_parent, with_stage}
 use Rattle.trees.specs.Trees.{Trees, adoption_left}
 use Rattle.trees.specs.Surveys.{Survey}
-use Rattle.trees.proofs.Queueing.{sound_is}
 use Rattle.trees.proofs.Adopting.{orphan_stays, adopted_trees, adopted_survey}
+use Rattle.search.specs.Tables.{forest_of}
 use Rattle.search.proofs.adoption.adopt_one.Goals as goal
 
 pub free-requires : goal.free-requires
 free-requires g c =
     let v = g.N.Network.value c.args.net.now in
     let found = c.find_parent.ensures in
-    let o = orphan_stays v (forest c.args.work.now) (forest c.find_parent.new.work) c.args.terminal c.args.node found.trees (record { trees = c.requires.trees; mine = c.requires.mine; alone = c.requires.alone }) in
+    let o = orphan_stays v (forest_of c.args.table.now) (forest_of c.find_parent.new.table) c.args.terminal c.args.node found.trees (record { trees = c.requires.trees; mine = c.requires.mine; alone = c.requires.alone }) in
     record {
       trees = o.trees;
-      kept = sound_is found.trees found.places refl c.requires.kept;
       there = c.requires.there;
       mine = o.mine;
       alone = o.alone;
@@ -28,14 +27,13 @@ returns-in-Some g c =
     let u = c.args.node in
     let a = c.in-Some.offer.arc in
     let stage = c.args.stage in
-    let f = forest c.find_parent.new.work in
+    let f = forest_of c.find_parent.new.table in
     let found = c.find_parent.ensures in
-    let o = orphan_stays v (forest c.args.work.now) f t u found.trees (record { trees = c.requires.trees; mine = c.requires.mine; alone = c.requires.alone }) in
+    let o = orphan_stays v (forest_of c.args.table.now) f t u found.trees (record { trees = c.requires.trees; mine = c.requires.mine; alone = c.requires.alone }) in
     let offered = c.in-Some.ensures.found in
-    let is : forest c.set_stage.new.work ≡ with_stage (with_parent f u (Along a)) u stage = c.set_stage.ensures.trees ∙ ap (λ (x : Forest). with_stage x u stage) c.set_parent.ensures.trees in
+    let is : forest_of c.set_stage.new.self ≡ with_stage (with_parent f u (Along a)) u stage = c.set_stage.ensures ∙ ap (λ (x : Forest). with_stage x u stage) c.set_parent.ensures in
     record {
       trees = subst (Trees v) (sym is) (adopted_trees v f t u a stage (g.N.Network.lawful c.args.net.now) o offered);
-      kept = sound_is is (c.set_stage.ensures.places ∙ c.set_parent.ensures.places) refl (sound_is found.trees found.places refl c.requires.kept);
       survey = subst (λ (x : Forest). Survey v x stage) (sym is) (adopted_survey v f t u a stage o offered found.survey);
       left = omega (arith, ap (adoption_left n) is, ap (adoption_left n) found.trees);
     }
@@ -47,7 +45,6 @@ returns-in-None g c =
     let after = c.free.ensures in
     record {
       trees = after.trees;
-      kept = after.kept;
       survey = after.survey c.args.stage found.survey;
       left = omega (arith, after.left, ap (adoption_left n) found.trees);
     }

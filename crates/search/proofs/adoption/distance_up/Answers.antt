@@ -1,14 +1,16 @@
-use Rattle.trees.specs.Forests.{forest}
+use Rattle.std.proofs.Common.{sym, ap, ◌∙◌}
+use Rattle.trees.specs.declared.work.Work.{Work}
 use Rattle.trees.proofs.Climbs.{branch_there}
 use Rattle.trees.proofs.Anchors.{anchored_root}
 use Rattle.trees.proofs.Stepping.{step_up}
+use Rattle.search.specs.Tables.{forest_of}
 use Rattle.search.proofs.adoption.distance_up.Goals as goal
 
 pub returns-in-Root : goal.returns-in-Root
 returns-in-Root g c =
     let v = g.N.Network.value c.args.net.now in
-    let f = forest c.args.work.now in
-    c.loop-steps.invariant.2 (anchored_root v.graph f.parent c.args.terminal c.loop-steps.at c.in-Root.is)
+    let f = forest_of c.args.table.now in
+    c.loop-steps.invariant.2 (anchored_root v.graph f.parent c.args.terminal c.loop-steps.at (sym (ap (λ (w : Work). w.parent) c.work-record.ensures) ∙ c.in-Root.is))
 
 pub near_end-at-requires : goal.near_end-at-requires
 near_end-at-requires g c =
@@ -16,10 +18,10 @@ near_end-at-requires g c =
     let t = c.args.terminal in
     let u = c.loop-steps.at in
     let a = c.in-Along.arc in
-    branch_there (g.N.Network.value c.args.net.now) (forest c.args.work.now) t u a (c.requires.survey.parents t u a there mine c.in-Along.is)
+    branch_there (g.N.Network.value c.args.net.now) (forest_of c.args.table.now) t u a (c.requires.survey.parents t u a there mine (sym (ap (λ (w : Work). w.parent) c.work-record.ensures) ∙ c.in-Along.is))
 
 pub loop-steps-preserved : goal.loop-steps-preserved
 loop-steps-preserved g c =
     let (there, mine, on) = c.loop-steps.invariant in
-    let step = step_up (g.N.Network.value c.args.net.now) (forest c.args.work.now) c.args.stage c.args.terminal c.loop-steps.at c.in-Along.arc c.near_end-at.result (g.N.Network.lawful c.args.net.now) c.requires.survey there mine c.in-Along.is c.near_end-at.ensures in
+    let step = step_up (g.N.Network.value c.args.net.now) (forest_of c.args.table.now) c.args.stage c.args.terminal c.loop-steps.at c.in-Along.arc c.near_end-at.result (g.N.Network.lawful c.args.net.now) c.requires.survey there mine (sym (ap (λ (w : Work). w.parent) c.work-record.ensures) ∙ c.in-Along.is) c.near_end-at.ensures in
     (step.there, step.mine, λ anchored. on (step.below anchored))

@@ -1,10 +1,10 @@
 use Rattle.std.proofs.Common.{◌≡◌, ◌<◌, Some}
-use Rattle.trees.specs.Forests.{forest}
 use Rattle.trees.specs.Trees.{Anchored}
+use Rattle.search.specs.Tables.{forest_of}
 use Rattle.search.proofs.adoption.distance_up.Given as goal
 
 abbrev pub invariant-loop-steps : goal.invariant-loop-steps
 invariant-loop-steps g l =
     let v = g.N.Network.value l.net in
-    let f = forest l.work in
+    let f = forest_of l.table in
     (l.at < v.graph.nodes) × (f.tree l.at ≡ Some l.terminal) × (Anchored v.graph f.parent l.terminal l.at → Anchored v.graph f.parent l.terminal l.node)

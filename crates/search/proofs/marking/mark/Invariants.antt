@@ -1,6 +1,6 @@
-use Rattle.trees.specs.Forests.{forest}
 use Rattle.search.specs.Markings.{MarkedByTree}
+use Rattle.search.specs.Tables.{forest_of}
 use Rattle.search.proofs.marking.mark.Given as goal
 
 abbrev pub invariant-loop-node : goal.invariant-loop-node
-invariant-loop-node l = MarkedByTree (forest l.work) l.node l.marks
+invariant-loop-node l = MarkedByTree (forest_of l.table) l.node l.marks

@@ -1,8 +1,8 @@
 use Rattle.std.proofs.Common.{◌≤◌, length, sym, ap, ◌∙◌, subst, arith, rules}
 use Rattle.network.specs.Paths.{Path, Augmenting, carried}
-use Rattle.trees.specs.Forests.{forest}
 use Rattle.trees.specs.Trees.{AllOnward}
 use Rattle.search.specs.declared.report.Log.{Log}
+use Rattle.search.specs.Tables.{forest_of}
 use Rattle.search.proofs.Augmenting.{read_is, read_last, traced_few, traced_small, log_traced, trail_traced}
 use Rattle.search.proofs.running.augment.Goals as goal
 
@@ -23,7 +23,7 @@ slice_bounds-carry-end g c =
 pub carry-requires : goal.carry-requires
 carry-requires g c =
     let v = g.N.Network.value c.args.net.now in
-    let f = forest c.args.work.now in
+    let f = forest_of c.args.table.now in
     let trail = c.args.trail.now in
     let n = c.args.log.now.words in
     let r = c.trace-path.result in
@@ -32,7 +32,6 @@ carry-requires g c =
     let is = read_is v f trail c.trace-path.new.words r p n room t in
     record {
       trees = c.requires.trees.trees;
-      kept = c.requires.kept;
       path = subst (Augmenting v) (sym is) t.augmenting;
       end = read_last v f trail c.trace-path.new.words r p n room t;
       onward = subst (λ (q : Path). AllOnward v.graph f q.arcs) (sym is) t.onward;
@@ -54,7 +53,7 @@ with-requires g c =
 pub returns : goal.returns
 returns g c =
     let v = g.N.Network.value c.args.net.now in
-    let f = forest c.args.work.now in
+    let f = forest_of c.args.table.now in
     let trail = c.args.trail.now in
     let log = c.args.log.now in
     let r = c.trace-path.result in
@@ -73,6 +72,5 @@ returns g c =
         },
       );
       trees = c.carry.ensures.trees;
-      kept = c.carry.ensures.kept;
       stages = c.carry.ensures.same.stages;
     }

@@ -1,12 +1,12 @@
 use Rattle.std.proofs.Common.{◌≤◌, length, sym, subst, arith, rules}
 use Rattle.std.specs.List.{AllByRecursion}
 use Rattle.network.specs.Paths.{Smallest}
-use Rattle.trees.specs.Forests.{forest}
 use Rattle.trees.specs.Trees.{There}
 use Rattle.trees.specs.Climbs.{residuals}
 use Rattle.trees.proofs.Writing.{three_words, read_after_three}
 use Rattle.trees.proofs.Crossing.{some_node, way_there}
 use Rattle.search.proofs.Climbing.{traced}
+use Rattle.search.specs.Tables.{forest_of}
 use Rattle.search.proofs.tracing.trace.Goals as goal
 
 pub slice_bounds-trace_arcs-count : goal.slice_bounds-trace_arcs-count
@@ -61,4 +61,4 @@ returns g c =
     let some = some_node _ _ _ l c.requires.bridge in
     let room : 3 ≤ length before = omega arith in
     let least = subst (λ xs. Smallest x (residuals v w.first xs w.last)) (read_after_three before c.trace_arcs-count.new.arcs arcs w.count room count written) c.smallest-amount.ensures in
-    traced v (forest c.args.work.now) before _ w arcs x count way least (three_words before c.trace_arcs-count.new.arcs arcs w.count x w.first room written)
+    traced v (forest_of c.args.table.now) before _ w arcs x count way least (three_words before c.trace_arcs-count.new.arcs arcs w.count x w.first room written)

@@ -1,0 +1,10 @@
+use Rattle.std.proofs.Common.{refl}
+use Rattle.trees.proofs.Tables.{forest_stage, slots_same}
+use Rattle.trees.proofs.Queueing.{sound_is}
+use Rattle.search.proofs.table.Table.set_stage.Goals as goal
+
+pub invariant_of-self : goal.invariant_of-self
+invariant_of-self c = record { kept = sound_is (forest_stage _ _ _ _ c.requires) (slots_same _ _ _ c.requires refl) refl c.args.self.now.kept }
+
+pub returns : goal.returns
+returns c = forest_stage _ _ _ _ c.requires

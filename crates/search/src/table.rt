@@ -1,0 +1,187 @@
+// The working table of a run: the records of all nodes, in which the two search trees lie, and the two queues, first come first
+// served, whose rings lie in the records too.
+ghost use Rattle.std.specs.Prelude.{◌≡◌, ◌+◌, ◌<◌, ◌≤◌, true, false, length};
+ghost use Rattle.network.specs.Nets.{at};
+ghost use Rattle.trees.specs.Forests.{forest, slots, at_lane, with_queued};
+ghost use Rattle.trees.specs.Rings.{wrap};
+ghost use Rattle.trees.specs.Searches.{Kept};
+
+use network::Terminal;
+use trees::{Lane, Parent, Queues, Ring, Work};
+
+#[derive(Drop)]
+pub(crate) struct Table<'a> {
+    work: &'a mut [Work],
+    queues: Queues,
+    // each queue holds the nodes that are marked as queued, each once
+    ghost kept: { Kept work.now queues },
+}
+
+impl<'a> Table<'a> {
+    ghost use Rattle.trees.specs.Forests.{cleared, with_tree, with_parent, with_stage, joined, orphaned};
+    ghost use Rattle.trees.specs.Rings.{Picked};
+    ghost use Rattle.trees.specs.Trees.{is_of};
+    ghost use Rattle.trees.specs.Carryings.{disowned};
+    ghost use Rattle.search.specs.Tables.{forest_of, records_of, record_of};
+
+    // The table as a run begins: every node is in no tree and in no queue.
+    pub(crate) fn cleared(work: &'a mut [Work]) -> Table<'a>
+        ensures { forest_of result ≡ cleared (length work.old) }
+    {
+        work.fill(Work::blank());
+        Table {
+            work,
+            queues: Queues::default(),
+        }
+    }
+
+    pub(crate) fn records(&self) -> &[Work]
+        ensures { result.now ≡ records_of self.now }
+    {
+        self.work
+    }
+
+    pub(crate) fn work(&self, node: usize) -> &Work
+        requires { node < (forest_of self.now).size }
+        ensures { result.now ≡ record_of self.now node }
+    {
+        &self.records()[node]
+    }
+
+    // Whether a node is in the tree of a terminal.
+    pub(crate) fn is_in(&self, node: usize, terminal: Terminal) -> bool
+        requires { node < (forest_of self.now).size }
+        ensures { result ≡ is_of ((forest_of self.now).tree node) terminal }
+    {
+        self.work(node).tree == Some(terminal)
+    }
+
+    // Puts a node into a tree, or out of both.
+    pub(crate) fn set_tree(&mut self, node: usize, tree: Option<Terminal>)
+        requires { node < (forest_of self.old).size }
+        ensures { forest_of self.new ≡ with_tree (forest_of self.old) node tree }
+    {
+        self.work[node].tree = tree;
+    }
+
+    // Hangs a node from another parent.
+    pub(crate) fn set_parent(&mut self, node: usize, parent: Parent)
+        requires { node < (forest_of self.old).size }
+        ensures { forest_of self.new ≡ with_parent (forest_of self.old) node parent }
+    {
+        self.work[node].parent = parent;
+    }
+
+    // Remembers that a node hangs from its terminal in this stage of adoption, and how far from it.
+    pub(crate) fn set_stage(&mut self, node: usize, stage: u64, distance: usize)
+        requires { node < (forest_of self.old).size }
+        ensures { forest_of self.new ≡ with_stage (forest_of self.old) node stage }
+    {
+        let record = self.work[node];
+        self.work[node] = Work {
+            stage,
+            distance,
+            ..record
+        };
+    }
+
+    // Puts a node into a queue, behind the last; nothing if it is there already.
+    pub(crate) fn put(&mut self, lane: Lane, node: usize)
+        requires { node < (forest_of self.old).size }
+        ensures { forest_of self.new ≡ with_queued (forest_of self.old) lane node true }
+    {
+        if self.work[node].queued.get(lane) {
+            return;
+        }
+        let Ring { head, count } = self.queues.get(lane);
+        let place = place_after(self.work.len(), head, count);
+        enqueue(self.work, lane, place, node);
+        let longer = Ring {
+            head,
+            count: count + 1,
+        };
+        self.queues.set(lane, longer);
+    }
+
+    // Takes the first node out of a queue; none if the queue is empty.
+    pub(crate) fn pick(&mut self, lane: Lane) -> Option<usize>
+        ensures { Picked lane (forest_of self.old) (forest_of self.new) result }
+    {
+        let Ring { head, count } = self.queues.get(lane);
+        if count == 0 {
+            return None;
+        }
+        let size = self.work.len();
+        let node = self.work[place_after(size, head, 0)].slots.get(lane);
+        dequeue(self.work, lane, node);
+        let shorter = Ring {
+            head: place_after(size, head, 1),
+            count: count - 1,
+        };
+        self.queues.set(lane, shorter);
+        Some(node)
+    }
+
+    // Puts a node into a tree, below a parent; it waits for its arcs to be looked at.
+    pub(crate) fn join(&mut self, terminal: Terminal, node: usize, parent: Parent)
+        requires { node < (forest_of self.old).size }
+        ensures { forest_of self.new ≡ joined (forest_of self.old) terminal node parent }
+    {
+        self.set_tree(node, Some(terminal));
+        self.set_parent(node, parent);
+        self.put(Lane::Waiting, node);
+    }
+
+    // Takes a node's parent away; it waits for another one.
+    pub(crate) fn orphan(&mut self, node: usize)
+        requires { node < (forest_of self.old).size }
+        ensures { forest_of self.new ≡ orphaned (forest_of self.old) node }
+    {
+        self.set_parent(node, Parent::Orphan);
+        self.put(Lane::Orphans, node);
+    }
+
+    // Takes the child's parent away, if that is the arc.
+    pub(crate) fn disown(&mut self, child: usize, arc: usize)
+        requires { child < (forest_of self.old).size }
+        ensures { forest_of self.new ≡ disowned (forest_of self.old) child arc }
+    {
+        match self.work[child].parent {
+            Parent::Along(code) if code == arc => self.orphan(child),
+            _ => {}
+        }
+    }
+}
+
+// The place of a ring that lies some steps after its first; the place after the table's last record is the first.
+fn place_after(size: usize, head: usize, steps: usize) -> usize
+    requires { head ≤ size }
+    ensures { result ≡ wrap size (head + steps) }
+{
+    let before_end = size - head;
+    if steps < before_end {
+        head + steps
+    } else {
+        steps - before_end
+    }
+}
+
+// Writes a node to a place of a queue's ring, and marks it as queued.
+fn enqueue(work: &mut [Work], lane: Lane, place: usize, node: usize)
+    requires place { place < length work.old }
+    requires node { node < length work.old }
+    ensures trees { forest work.new ≡ with_queued (forest work.old) lane node true }
+    ensures places { slots work.new ≡ at_lane (slots work.old) lane (at (slots work.old lane) place node) }
+{
+    work[place].slots.set(lane, node);
+    work[node].queued.set(lane, true);
+}
+
+// Marks a node as no longer queued.
+fn dequeue(work: &mut [Work], lane: Lane, node: usize)
+    requires { node < length work.old }
+    ensures trees { forest work.new ≡ with_queued (forest work.old) lane node false }
+    ensures places { slots work.new ≡ slots work.old }
+{
+    work[node].queued.set(lane, false);
+}
