@@ -92,7 +92,7 @@ woken_waits v h f some = either (λ (g : Forest). g.queued Waiting h.node ≡ tr
     (λ none. absurd (omega (arith, ltb-false 0 (v.residual h.inward) none)))
 
 -- the neighbour at this place has been let go
-pub freeing_more : (v : Net) (t : Terminal) (u k : ℕ) (h : Neighbour) (before f : Forest) → Lawful v → Freeing v t u k before f → Beside v.graph t u k h → Freeing v t u (k + 1) before (released v t h f)
+freeing_more : (v : Net) (t : Terminal) (u k : ℕ) (h : Neighbour) (before f : Forest) → Lawful v → Freeing v t u k before f → Beside v.graph t u k h → Freeing v t u (k + 1) before (released v t h f)
 freeing_more v t u k h before f l s b =
     let w = h.node in
     let on : (g : Forest) → Freeing v t u k before g → Loose v g t h.outward b.ends → Freeing v t u (k + 1) before g = λ g s loose. record {
@@ -111,6 +111,9 @@ freeing_more v t u k h before f l s b =
     (subst (λ (x : ℕ). g.tree x ≡ Some t → (0 < v.residual b.ends.reverse → g.queued Waiting x ≡ true) × (g.parent x ≡ Along h.outward → ⊥)) (sym b.to)
     (λ _. (λ some. disowned_waits (woken v h f) w h.outward w (woken_waits v h f (subst (λ (x : ℕ). 0 < v.residual x) b.back some)), disowned_here (woken v h f) w h.outward))))
     (λ is. on f s (λ in_tree. absurd (both_ways (is_of (f.tree w) t) is (ap (λ (o : Option Terminal). is_of o t) (ap f.tree (sym b.to) ∙ in_tree) ∙ is_of_true t))))
+
+pub freeing_after : (v : Net) (t : Terminal) (u k : ℕ) (h : Neighbour) (before f f' : Forest) → Lawful v → Freeing v t u k before f → Beside v.graph t u k h → f' ≡ released v t h f → Freeing v t u (k + 1) before f'
+freeing_after v t u k h before f f' l s b is = subst (Freeing v t u (k + 1) before) (sym is) (freeing_more v t u k h before f l s b)
 
 -- what the end of the loop needs to free the node
 pub freeing_ends : (v : Net) (t : Terminal) (u k : ℕ) (before f : Forest) → Lawful v → Freeing v t u k before f → slice_get (v.graph.arcs u) k ≡ None → Trees v (with_tree f u None) × SurveyKept v before (with_tree f u None)

@@ -49,7 +49,7 @@ scanning_more v t u k before f h l s b inside = record {
 }
 
 -- a free node joins
-pub scanning_joined : (v : Net) (t : Terminal) (u k : ℕ) (before f : Forest) (h : Neighbour) → Lawful v → Scanning v t u k before f → Beside v.graph t u k h → 0 < v.residual h.outward → f.tree h.node ≡ None → Scanning v t u (k + 1) before (joined f t h.node (Along h.outward))
+scanning_joined : (v : Net) (t : Terminal) (u k : ℕ) (before f : Forest) (h : Neighbour) → Lawful v → Scanning v t u k before f → Beside v.graph t u k h → 0 < v.residual h.outward → f.tree h.node ≡ None → Scanning v t u (k + 1) before (joined f t h.node (Along h.outward))
 scanning_joined v t u k before f h l s b some free =
     let a = h.outward in
     let w = h.node in
@@ -68,6 +68,9 @@ scanning_joined v t u k before f h l s b some free =
     })
     b
     (λ _. at_here f.tree w (Some t) w refl)
+
+pub scanning_grown : (v : Net) (t : Terminal) (u k : ℕ) (before f f' : Forest) (h : Neighbour) → Lawful v → Scanning v t u k before f → Beside v.graph t u k h → 0 < v.residual h.outward → f.tree h.node ≡ None → f' ≡ joined f t h.node (Along h.outward) → Scanning v t u (k + 1) before f'
+scanning_grown v t u k before f f' h l s b some free is = subst (Scanning v t u (k + 1) before) (sym is) (scanning_joined v t u k before f h l s b some free)
 
 -- every arc has been seen: the node need not wait
 pub scanning_ends : (v : Net) (t : Terminal) (u k : ℕ) (before f : Forest) → Lawful v → Scanning v t u k before f → slice_get (v.graph.arcs u) k ≡ None → Trees v f

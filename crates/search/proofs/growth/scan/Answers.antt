@@ -1,8 +1,8 @@
-use Rattle.std.proofs.Common.{◌≡◌, ◌+◌, ◌<◌, Some, sym, ap, ◌∙◌, subst, arith, rules}
+use Rattle.std.proofs.Common.{◌≡◌, ◌+◌, ◌<◌, Some, sym, ap, ◌∙◌, arith, rules}
 use Rattle.trees.specs.declared.work.Work.{Work}
 use Rattle.search.specs.Tables.{forest_of}
 use Rattle.search.proofs.Neighbours.{met, passed}
-use Rattle.search.proofs.Scanning.{Scanning, scanning_there, scanning_more, scanning_joined, scanning_ends}
+use Rattle.search.proofs.Scanning.{scanning_there, scanning_more, scanning_grown, scanning_ends}
 use Rattle.search.proofs.growth.scan.Goals as goal
 
 pub work-requires : goal.work-requires
@@ -24,8 +24,7 @@ loop-next-preserved-in-None-tree g c =
     let (beside, on) = met g.N.Network.value _ _ _ k _ _ _ stands c.in-Some.ensures.steps in
     let some : 0 < v.residual c.in-Some.next.outward = omega (arith, c.residual.ensures, c.if-residual-gt0.true) in
     let free = sym (ap (λ (w : Work). w.tree) c.work.ensures) ∙ c.in-None-tree.is in
-    let new = scanning_joined v _ _ _ _ (forest_of c.loop-next.table) _ (g.N.Network.lawful c.args.net.now) s beside some free in
-    (k + 1, on, subst (Scanning v c.args.terminal c.args.node (k + 1) (forest_of c.args.table.now)) (sym c.join.ensures) new)
+    (k + 1, on, scanning_grown v c.args.terminal c.args.node k (forest_of c.args.table.now) (forest_of c.loop-next.table) (forest_of c.join.new.self) c.in-Some.next (g.N.Network.lawful c.args.net.now) s beside some free c.join.ensures)
 
 pub loop-next-preserved-then-eq : goal.loop-next-preserved-then-eq
 loop-next-preserved-then-eq g c =

@@ -3,7 +3,7 @@ use Rattle.trees.proofs.Adopting.{restaged_on}
 use Rattle.search.specs.Tables.{forest_of}
 use Rattle.search.proofs.Neighbours.{met}
 use Rattle.search.proofs.Offers.{beside_inward, found_stands, found_nearer}
-use Rattle.search.proofs.adoption.find_parent.Goals as goal
+use Rattle.search.proofs.adoption.Adoption.find_parent.Goals as goal
 
 pub ask-requires : goal.ask-requires
 ask-requires g c =
@@ -11,13 +11,13 @@ ask-requires g c =
     let (beside, _) = met g.N.Network.value _ _ _ k _ _ _ stands c.in-Some.ensures.steps in
     record {
       survey = survey;
-      inward = beside_inward (g.N.Network.value c.args.net.now) c.args.terminal c.args.node k c.in-Some.next (g.N.Network.lawful c.args.net.now) beside;
+      inward = beside_inward (g.N.Network.value c.args.self.now.net.now) c.args.self.now.terminal c.args.node k c.in-Some.next (g.N.Network.lawful c.args.self.now.net.now) beside;
     }
 
 pub loop-next-preserved-in-Some-ask : goal.loop-next-preserved-in-Some-ask
 loop-next-preserved-in-Some-ask g c =
-    let v = g.N.Network.value c.args.net.now in
-    let t = c.args.terminal in
+    let v = g.N.Network.value c.args.self.now.net.now in
+    let t = c.args.self.now.terminal in
     let u = c.args.node in
     let f = forest_of c.loop-next.table in
     let f' = forest_of c.ask.new.table in
@@ -37,5 +37,5 @@ loop-next-preserved g c =
       (k + 1, on),
       after.survey,
       restaged_on (forest_of c.args.table.now) f f' only after.trees,
-      found_stands (g.N.Network.value c.args.net.now) f f' c.args.terminal c.args.node c.loop-next.best after.trees found,
+      found_stands (g.N.Network.value c.args.self.now.net.now) f f' c.args.self.now.terminal c.args.node c.loop-next.best after.trees found,
     )
