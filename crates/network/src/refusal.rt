@@ -18,6 +18,7 @@ impl NetworkRefusal {
     pub fn question(self) -> u8
         ensures { result ≡ question self }
     {
+        // not by discriminants: an edit that gives a case the number of another must build, to be refused by the proof
         match self {
             NetworkRefusal::NoNode => 27,
             NetworkRefusal::NoArc => 28,

@@ -29,6 +29,7 @@ impl RunRefusal {
     pub fn question(self) -> u8
         ensures { result ≡ question self }
     {
+        // not by discriminants: an edit that gives a case the number of another must build, to be refused by the proof
         match self {
             RunRefusal::FewRecords => 25,
             RunRefusal::FewMarks => 26,

@@ -10,6 +10,7 @@ pub enum Outcome {
 }
 
 // The paths that a run has carried out: how many, the sum of their amounts, and the words of the trail that they take.
+// The trail is no field: a struct with its loan would have each function that writes it say that it still holds the same loan.
 #[derive(Clone, Copy, PartialEq, Eq, Debug, Default)]
 pub struct Log {
     pub paths: u64,

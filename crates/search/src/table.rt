@@ -9,6 +9,9 @@ ghost use Rattle.trees.specs.Searches.{Kept};
 use network::Terminal;
 use trees::{Lane, Parent, Queues, Ring, Work};
 
+// The records and the queues' rings. The network is no field: a struct with its loan would have each function that changes it say
+// that it still holds the same loan. Nor is it a ghost field that the trees stand: such a fact has one proof at most, and this one
+// tells a climb for each node.
 #[derive(Drop)]
 pub(crate) struct Table<'a> {
     work: &'a mut [Work],

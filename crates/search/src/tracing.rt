@@ -70,6 +70,7 @@ fn climb<N: Network>(
     ensures { ClimbWritten (N.Network.value net.now).graph (forest_of table.now).parent terminal node arcs.old arcs.new result }
 {
     let mut at = node;
+    // counted by hand: the count is the answer, and only the trees tell which step is the last
     let mut steps = 0;
     while let Some(hop) = step_up(net, table, terminal, at) {
         arcs[steps] = hop.arc as u64;

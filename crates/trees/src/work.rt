@@ -17,6 +17,7 @@ pub enum Parent {
     Along(usize),
 }
 
+// Nodes go by their numbers, and no record holds another: the user lends the table, and nothing is allocated.
 #[derive(Clone, Copy, PartialEq, Eq, Debug, Default)]
 pub struct Work {
     // the node's tree, where it is in one, and where it hangs
