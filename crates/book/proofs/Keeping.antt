@@ -1,6 +1,7 @@
 -- What holds of an open book's table, kept by each entry and each need.
 use Rattle.std.proofs.Common.{◌≡◌, ℕ, ◌+◌, ◌*◌, ◌<◌, ◌≤◌, eqb, [], map, length, sym, refl, ap, ◌∙◌, ⊎_elim, add-one, arith}
 use Rattle.std.specs.List.{range_with_len}
+use Rattle.std.proofs.ByRecursion.{All-map}
 use Rattle.std.proofs.lemmas.Bool.{cases_eq, eq-eqb, ne_eqb}
 use Rattle.std.proofs.lemmas.Bool.Decides.{nat_tests}
 use Rattle.network.specs.Nets.{at}
@@ -9,7 +10,7 @@ use Rattle.network.proofs.Sums.{sum_same}
 use Rattle.book.specs.Books.{Need, needs_of, mate}
 use Rattle.book.specs.Tables.{Columns, need_in, book_in, arcs_of, SmallAmounts, HeadsThere, Unsent, NeedsNoted, AtMostFour, NeedsCounted, ArcsCounted}
 use Rattle.book.specs.Writes.{with_entry_at}
-use Rattle.book.proofs.Counts.{kept_none, all_map_counting, all_counting}
+use Rattle.book.proofs.Counts.{kept_none, all_counting}
 
 -- what holds of the columns of n entries and m needs
 pub record Kept (c : Columns) (n m : ℕ) : Type 0 where
@@ -34,7 +35,7 @@ mate_below a m h = grind (arith, nat_tests)
 
 -- an entry that no arc leads to has neither needs nor arcs
 no_needs : (c : Columns) (n m : ℕ) → HeadsThere c n m → needs_of n (book_in c n m).needs ≡ []
-no_needs c n m heads = rw (kept_none (λ (x : Need). eqb x.entry n) (map (need_in c) (range_with_len 0 m)) (all_map_counting _ (need_in c) m (λ k h. let below = heads (2 * k + 1) (omega arith) in ne_eqb (c.head (2 * k + 1)) n (λ e. omega arith))))
+no_needs c n m heads = rw (kept_none (λ (x : Need). eqb x.entry n) (map (need_in c) (range_with_len 0 m)) (All-map _ (need_in c) (range_with_len 0 m) (all_counting _ m (λ k h. let below = heads (2 * k + 1) (omega arith) in ne_eqb (c.head (2 * k + 1)) n (λ e. omega arith)))))
 
 no_arcs : (c : Columns) (n m : ℕ) → HeadsThere c n m → arcs_of c m n ≡ []
 no_arcs c n m heads = kept_none _ (range_with_len 0 (2 * m)) (all_counting _ (2 * m) (λ k h. let below = heads (mate k) (mate_below k m h) in ne_eqb (c.head (mate k)) n (λ e. omega arith)))
