@@ -62,7 +62,6 @@ impl<'a> OpenBook<'a> {
     pub fn release(self) -> &'a mut [Record]
         ensures { result.now ≡ (open_of self.entry).table }
     {
-        let table = self.held.table;
-        table
+        self.held.release()
     }
 }

@@ -1,5 +1,5 @@
 // What an open book and a sealed one hold alike: a borrowed table, with entries from its front and the arcs of needs from its end.
-ghost use Rattle.std.specs.Prelude.{◌+◌, ◌*◌, ◌≤◌, length};
+ghost use Rattle.std.specs.Prelude.{◌≡◌, ◌+◌, ◌*◌, ◌≤◌, length};
 ghost use Rattle.book.specs.Tables.{columns, SmallAmounts, HeadsThere};
 
 use super::record::Record;
@@ -13,4 +13,14 @@ pub(crate) struct Held<'a> {
     ghost room: { entries + 2 * needs ≤ length table.now },
     ghost amounts: { SmallAmounts (columns table.now) entries },
     ghost heads: { HeadsThere (columns table.now) entries needs },
+}
+
+impl<'a> Held<'a> {
+    // Gives the table back.
+    pub(crate) fn release(self) -> &'a mut [Record]
+        ensures { result.now ≡ self.entry.table.now }
+    {
+        let table = self.table;
+        table
+    }
 }
