@@ -1,10 +1,9 @@
 -- What holds of an open book's table, kept by each entry and each need.
-use Rattle.std.proofs.Common.{◌≡◌, ℕ, ◌+◌, ◌*◌, ◌<◌, ◌≤◌, eqb, [], map, length, sym, refl, ap, ◌∙◌, ⊎_elim, add-one, arith}
+use Rattle.std.proofs.Common.{◌≡◌, ℕ, ◌+◌, ◌*◌, ◌<◌, ◌≤◌, eqb, [], map, length, add-one, arith}
 use Rattle.std.specs.List.{range_with_len}
 use Rattle.std.proofs.ByRecursion.{All-map}
-use Rattle.std.proofs.lemmas.Bool.{cases_eq, eq-eqb, ne_eqb}
+use Rattle.std.proofs.lemmas.Bool.{ne_eqb}
 use Rattle.std.proofs.lemmas.Bool.Decides.{nat_tests}
-use Rattle.network.specs.Nets.{at}
 use Rattle.network.specs.Cuts.{sum_below}
 use Rattle.network.proofs.Sums.{sum_same}
 use Rattle.book.specs.Books.{Need, needs_of, mate}
@@ -22,13 +21,6 @@ pub record Kept (c : Columns) (n m : ℕ) : Type 0 where
   pub counted : NeedsCounted c n m
   pub arcs : ArcsCounted c n m
 
--- f with y at x, at x and elsewhere
-at_here : {A : Type 0} (f : ℕ → A) (x : ℕ) (y : A) (k : ℕ) → k ≡ x → at f x y k ≡ y
-at_here f x y k is = rw (eq-eqb k x is)
-
-at_far : {A : Type 0} (f : ℕ → A) (x : ℕ) (y : A) (k : ℕ) → (k ≡ x → ⊥) → at f x y k ≡ f k
-at_far f x y k far = rw (ne_eqb k x far)
-
 -- the reverse of an arc is one of the same pair
 pub mate_below : (a m : ℕ) → a < 2 * m → mate a < 2 * m
 mate_below a m h = grind (arith, nat_tests)
@@ -45,28 +37,15 @@ pub kept_entry : (c : Columns) (n m x y : ℕ) → Kept c n m → x ≤ 1000000 
 unfolding sum_below
 kept_entry c n m x y k small-x small-y =
     let d = with_entry_at c n x y in
-    let old : (u : ℕ) → u < n + 1 → (u ≡ n → ⊥) → u < n = λ u h far. omega arith in
     record {
-      amounts = λ u h. ⊎_elim
-          (λ (is : u ≡ n). rw (eq-eqb u n is) (small-x, small-y))
-          (λ (far : u ≡ n → ⊥). rw (ne_eqb u n far) (k.amounts u (old u h far)))
-          (cases_eq u n);
+      amounts = λ u h. grind (arith, nat_tests, k.amounts u);
       heads = λ a h. omega (arith, k.heads a h);
       unsent = k.unsent;
-      noted = λ u h. ⊎_elim
-          (λ (is : u ≡ n). at_here c.needed n [] u is ∙ sym (no_needs c n m k.heads) ∙ ap (λ (v : ℕ). needs_of v (book_in c n m).needs) (sym is))
-          (λ (far : u ≡ n → ⊥). at_far c.needed n [] u far ∙ k.noted u (old u h far))
-          (cases_eq u n);
-      four = λ u h. ⊎_elim
-          (λ (is : u ≡ n). rw (eq-eqb u n is) (omega arith, refl, refl))
-          (λ (far : u ≡ n → ⊥). rw (ne_eqb u n far) (k.four u (old u h far)))
-          (cases_eq u n);
+      noted = λ u h. let none = no_needs c n m k.heads in grind (arith, nat_tests, k.noted u);
+      four = λ u h. grind (arith, nat_tests, k.four u);
       counted =
-          let rest = sum_same n (λ u. length (d.needed u)) (λ u. length (c.needed u)) (λ u h. ap length (at_far c.needed n [] u (λ e. omega arith))) in
-          let last = ap length (at_here c.needed n [] n refl) in
+          let rest = sum_same n (λ u. length (d.needed u)) (λ u. length (c.needed u)) (λ u h. grind (arith, nat_tests)) in
+          let last : length (d.needed n) ≡ 0 = grind (arith, nat_tests) in
           rw add-one (omega (arith, k.counted));
-      arcs = λ u h. ⊎_elim
-          (λ (is : u ≡ n). at_here c.arcs n 0 u is ∙ ap length (sym (no_arcs c n m k.heads) ∙ ap (arcs_of c m) (sym is)))
-          (λ (far : u ≡ n → ⊥). at_far c.arcs n 0 u far ∙ k.arcs u (old u h far))
-          (cases_eq u n);
+      arcs = λ u h. let none = no_arcs c n m k.heads in grind (arith, nat_tests, k.arcs u);
     }
