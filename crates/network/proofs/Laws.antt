@@ -1,6 +1,6 @@
 -- What the laws say of arcs and their ends, what take and shift change, and that both keep the laws.
 use Rattle.std.proofs.Common.{◌≡◌, ℕ, ◌+◌, ◌-◌, ◌<◌, ◌≤◌, Some, None, Ok, Err, Option, Result, sym, refl, ap, ◌∙◌, ⊎_elim, arith}
-use Rattle.std.proofs.lemmas.Bool.{cases_eq, cases_lt, lt-leb}
+use Rattle.std.proofs.lemmas.Bool.{cases_eq}
 use Rattle.std.proofs.lemmas.Bool.Decides.{nat_tests}
 use Rattle.std.specs.Option.{unwrap_or}
 use Rattle.std.specs.List.{slice_get}
@@ -13,10 +13,7 @@ use Rattle.network.specs.Sides.{near, far}
 use Rattle.network.specs.Theorems.{TakeKeeps, ShiftKeeps}
 
 at_le : (f : ℕ → ℕ) (u x k : ℕ) → x ≤ f u → at f u x k ≤ f k
-at_le f u x k less = ⊎_elim
-    (λ (is : k ≡ u). let same = ap f is in grind (arith, nat_tests))
-    (λ (not : k ≡ u → ⊥). grind (arith, nat_tests))
-    (cases_eq k u)
+at_le f u x k less = grind (arith, nat_tests)
 
 -- a take raises no terminal residual
 pub taken_le : (v : Net) (t s : Terminal) (u x w : ℕ) → (taken v t u x).terminal s w ≤ v.terminal s w
@@ -123,15 +120,8 @@ pub shift_accepted : (v : Net) (a x : ℕ) → shift_answer v a x ≡ done → (
 shift_accepted v a x ok = by (v.graph.ends a) refl
   where
     by : (o : Option Ends) → v.graph.ends a ≡ o → (e : Ends) × (v.graph.ends a ≡ Some e) × (x ≤ v.residual a)
-    by None is = let z : ◌≡◌ {A = ℕ} 0 1 = cc in absurd (omega arith)
-    by (Some e) is = (
-      e,
-      is,
-      ⊎_elim
-          (λ (above : v.residual a < x). let no = lt-leb x (v.residual a) above in let z : ◌≡◌ {A = ℕ} 0 1 = cc in absurd (omega arith))
-          (λ (less : x ≤ v.residual a). less)
-          (cases_lt (v.residual a) x),
-    )
+    by None is = cc
+    by (Some e) is = (e, is, grind (arith, nat_tests))
 
 pub shift_keeps : ShiftKeeps
 shift_keeps v a x l = after_keeps (shift_answer v a x) (shifted v a x) v (λ ok. let (e, is, less) = shift_accepted v a x ok in shifted_lawful v a x e l is less) l
@@ -140,5 +130,4 @@ shift_keeps v a x l = after_keeps (shift_answer v a x) (shifted v a x) v (λ ok.
 pub not_missing : (v : Net) (u k a : ℕ) → Lawful v → u < v.graph.nodes → slice_get (v.graph.arcs u) k ≡ Some a → v.graph.ends a ≡ None → ⊥
 not_missing v u k a l there at none =
     let (e, is, from) = l.graph.own u k a there at in
-    let z : ◌≡◌ {A = ℕ} 0 1 = cc in
-    omega arith
+    cc

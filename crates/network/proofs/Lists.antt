@@ -1,21 +1,20 @@
 -- What stands at the places of a list, and lists in which no number stands at two places.
 use Rattle.std.proofs.Common.{◌≡◌, ℕ, zero, suc, ◌<◌, ◌⊎◌, List, [], ◌∷◌, ◌++◌, length, Some, None, sym, refl, ap, ◌∙◌, subst, inl, inr, ⊎_elim, arith}
 use Rattle.std.specs.List.{AllByRecursion, slice_get}
+use Rattle.std.proofs.lemmas.Option.{slice_get_within}
 use Rattle.network.specs.Nets.{Distinct}
 
 -- nothing stands in a list of none
 pub nth_nil : {A : Type 0} (k x : ℕ) → slice_get [] k ≡ Some x → A
-nth_nil k x at = let z : ◌≡◌ {A = ℕ} 0 1 = cc in absurd (omega arith)
+nth_nil k x at = absurd cc
 
 pub nth_inside : (xs : List ℕ) (k x : ℕ) → slice_get xs k ≡ Some x → k < length xs
-nth_inside [] k x at = nth_nil k x at
-nth_inside (y ∷ xs) zero x at = omega arith
-nth_inside (y ∷ xs) (suc k) x at = omega (arith, nth_inside xs k x at)
+nth_inside xs k x at = slice_get_within xs k x at
 
 -- past the end stands nothing, so what stands somewhere stands before
 pub nth_before : (xs : List ℕ) (j k x : ℕ) → slice_get xs k ≡ None → slice_get xs j ≡ Some x → j < k
 nth_before [] j k x past at = nth_nil j x at
-nth_before (y ∷ xs) j zero x past at = let z : ◌≡◌ {A = ℕ} 0 1 = cc in absurd (omega arith)
+nth_before (y ∷ xs) j zero x past at = cc
 nth_before (y ∷ xs) zero (suc k) x past at = omega arith
 nth_before (y ∷ xs) (suc j) (suc k) x past at = omega (arith, nth_before xs j k x past at)
 
