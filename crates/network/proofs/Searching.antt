@@ -21,7 +21,7 @@ find (suc n) f = ⊎_elim
     (λ (here : 0 < f n). inl (n, omega arith, here))
     (λ (no : f n ≤ 0). ⊎_elim
     (λ ((k, below, some) : (k : ℕ) × (k < n) × (0 < f k)). inl (k, omega arith, some))
-    (λ (none : (k : ℕ) → k < n → f k ≡ 0). inr (λ k below. ⊎_elim (λ (is : k ≡ n). omega (arith, ap f is)) (λ (far : k ≡ n → ⊥). none k (omega arith)) (cases_eq k n)))
+    (λ (none : (k : ℕ) → k < n → f k ≡ 0). inr (λ k below. grind (arith, none k)))
     (find n f))
     (cases_lt 0 (f n))
 
