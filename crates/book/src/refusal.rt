@@ -46,7 +46,7 @@ impl EnterRefusal {
         }
     }
 
-    // The number of the question whose answer is no.
+    // The number of the question whose answer is no. No discriminants: a must-fail edit gives two cases one number, and has to build.
     pub fn question(self) -> u8
         ensures { result ≡ enter_question self }
     {
@@ -75,7 +75,7 @@ pub enum NeedRefusal {
 }
 
 impl NeedRefusal {
-    // The number of the question whose answer is no.
+    // The number of the question whose answer is no. No discriminants: a must-fail edit gives two cases one number, and has to build.
     pub fn question(self) -> u8
         ensures { result ≡ need_question self }
     {

@@ -61,6 +61,7 @@ impl<'a> Network for Row<'a> {
         if node >= count {
             return Err(NetworkRefusal::NoNode);
         }
+        // the arc to the next cell comes first, then the one to the cell before, each where there is one
         let next = (node + 1 < count).then_some(2 * node);
         let before = node.checked_sub(1).map(|before| 2 * before + 1);
         Ok(next.into_iter().chain(before).nth(place))

@@ -23,7 +23,7 @@ pub(crate) enum Way {
 }
 
 impl Way {
-    // Which way the arc of a code goes.
+    // Which way the arc of a code goes. No `From`: a code also says which cell owns the arc.
     pub(crate) fn of(arc: usize) -> Way
         ensures { result ≡ way_of arc }
     {
@@ -47,8 +47,8 @@ impl Cell {
         }
     }
 
-    // What can still be sent between the cell and a terminal. One function for this and `residual` would choose among all four amounts
-    // by one enum, and the ends of an arc would have to rule out two of them.
+    // What can still be sent between the cell and a terminal. One function for this and `residual`, and one for what changes them, would
+    // choose among all four amounts by one enum, and the ends of an arc would have to rule out two of its cases.
     pub(crate) fn terminal(self, terminal: Terminal) -> u64
         ensures { result ≡ terminal_of self terminal }
     {
