@@ -1,15 +1,15 @@
 -- What holds of an open book's table, kept by each entry and each need.
-use Rattle.std.proofs.Common.{◌≡◌, ℕ, ◌+◌, ◌*◌, ◌<◌, ◌≤◌, eqb, [], map, length, sym, refl, ap, ◌∙◌, ⊎_elim, add-one, arith}
+use Rattle.std.proofs.Common.{◌≡◌, ℕ, ◌+◌, ◌*◌, ◌<◌, ◌≤◌, eqb, [], map, length, add-one, arith}
 use Rattle.std.specs.List.{range_with_len}
-use Rattle.std.proofs.lemmas.Bool.{cases_eq, eq-eqb, ne_eqb}
+use Rattle.std.proofs.ByRecursion.{All-map}
+use Rattle.std.proofs.lemmas.Bool.{ne_eqb}
 use Rattle.std.proofs.lemmas.Bool.Decides.{nat_tests}
-use Rattle.network.specs.Nets.{at}
 use Rattle.network.specs.Cuts.{sum_below}
 use Rattle.network.proofs.Sums.{sum_same}
 use Rattle.book.specs.Books.{Need, needs_of, mate}
 use Rattle.book.specs.Tables.{Columns, need_in, book_in, arcs_of, SmallAmounts, HeadsThere, Unsent, NeedsNoted, AtMostFour, NeedsCounted, ArcsCounted}
 use Rattle.book.specs.Writes.{with_entry_at}
-use Rattle.book.proofs.Counts.{kept_none, all_map_counting, all_counting}
+use Rattle.book.proofs.Counts.{kept_none, all_counting}
 
 -- what holds of the columns of n entries and m needs
 pub record Kept (c : Columns) (n m : ℕ) : Type 0 where
@@ -21,20 +21,13 @@ pub record Kept (c : Columns) (n m : ℕ) : Type 0 where
   pub counted : NeedsCounted c n m
   pub arcs : ArcsCounted c n m
 
--- f with y at x, at x and elsewhere
-at_here : {A : Type 0} (f : ℕ → A) (x : ℕ) (y : A) (k : ℕ) → k ≡ x → at f x y k ≡ y
-at_here f x y k is = rw (eq-eqb k x is)
-
-at_far : {A : Type 0} (f : ℕ → A) (x : ℕ) (y : A) (k : ℕ) → (k ≡ x → ⊥) → at f x y k ≡ f k
-at_far f x y k far = rw (ne_eqb k x far)
-
 -- the reverse of an arc is one of the same pair
 pub mate_below : (a m : ℕ) → a < 2 * m → mate a < 2 * m
 mate_below a m h = grind (arith, nat_tests)
 
 -- an entry that no arc leads to has neither needs nor arcs
 no_needs : (c : Columns) (n m : ℕ) → HeadsThere c n m → needs_of n (book_in c n m).needs ≡ []
-no_needs c n m heads = rw (kept_none (λ (x : Need). eqb x.entry n) (map (need_in c) (range_with_len 0 m)) (all_map_counting _ (need_in c) m (λ k h. let below = heads (2 * k + 1) (omega arith) in ne_eqb (c.head (2 * k + 1)) n (λ e. omega arith))))
+no_needs c n m heads = rw (kept_none (λ (x : Need). eqb x.entry n) (map (need_in c) (range_with_len 0 m)) (All-map _ (need_in c) (range_with_len 0 m) (all_counting _ m (λ k h. let below = heads (2 * k + 1) (omega arith) in ne_eqb (c.head (2 * k + 1)) n (λ e. omega arith)))))
 
 no_arcs : (c : Columns) (n m : ℕ) → HeadsThere c n m → arcs_of c m n ≡ []
 no_arcs c n m heads = kept_none _ (range_with_len 0 (2 * m)) (all_counting _ (2 * m) (λ k h. let below = heads (mate k) (mate_below k m h) in ne_eqb (c.head (mate k)) n (λ e. omega arith)))
@@ -44,28 +37,15 @@ pub kept_entry : (c : Columns) (n m x y : ℕ) → Kept c n m → x ≤ 1000000 
 unfolding sum_below
 kept_entry c n m x y k small-x small-y =
     let d = with_entry_at c n x y in
-    let old : (u : ℕ) → u < n + 1 → (u ≡ n → ⊥) → u < n = λ u h far. omega arith in
     record {
-      amounts = λ u h. ⊎_elim
-          (λ (is : u ≡ n). rw (eq-eqb u n is) (small-x, small-y))
-          (λ (far : u ≡ n → ⊥). rw (ne_eqb u n far) (k.amounts u (old u h far)))
-          (cases_eq u n);
+      amounts = λ u h. grind (arith, nat_tests, k.amounts u);
       heads = λ a h. omega (arith, k.heads a h);
       unsent = k.unsent;
-      noted = λ u h. ⊎_elim
-          (λ (is : u ≡ n). at_here c.needed n [] u is ∙ sym (no_needs c n m k.heads) ∙ ap (λ (v : ℕ). needs_of v (book_in c n m).needs) (sym is))
-          (λ (far : u ≡ n → ⊥). at_far c.needed n [] u far ∙ k.noted u (old u h far))
-          (cases_eq u n);
-      four = λ u h. ⊎_elim
-          (λ (is : u ≡ n). rw (eq-eqb u n is) (omega arith, refl, refl))
-          (λ (far : u ≡ n → ⊥). rw (ne_eqb u n far) (k.four u (old u h far)))
-          (cases_eq u n);
+      noted = λ u h. let none = no_needs c n m k.heads in grind (arith, nat_tests, k.noted u);
+      four = λ u h. grind (arith, nat_tests, k.four u);
       counted =
-          let rest = sum_same n (λ u. length (d.needed u)) (λ u. length (c.needed u)) (λ u h. ap length (at_far c.needed n [] u (λ e. omega arith))) in
-          let last = ap length (at_here c.needed n [] n refl) in
+          let rest = sum_same n (λ u. length (d.needed u)) (λ u. length (c.needed u)) (λ u h. grind (arith, nat_tests)) in
+          let last : length (d.needed n) ≡ 0 = grind (arith, nat_tests) in
           rw add-one (omega (arith, k.counted));
-      arcs = λ u h. ⊎_elim
-          (λ (is : u ≡ n). at_here c.arcs n 0 u is ∙ ap length (sym (no_arcs c n m k.heads) ∙ ap (arcs_of c m) (sym is)))
-          (λ (far : u ≡ n → ⊥). at_far c.arcs n 0 u far ∙ k.arcs u (old u h far))
-          (cases_eq u n);
+      arcs = λ u h. let none = no_arcs c n m k.heads in grind (arith, nat_tests, k.arcs u);
     }

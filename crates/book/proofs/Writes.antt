@@ -1,7 +1,6 @@
 -- What is read of a table after a write to one record.
-use Rattle.std.proofs.Common.{◌≡◌, ℕ, ◌+◌, ◌-◌, ◌<◌, List, length, take, set, sym, refl, ap, ◌∙◌, ⊎_elim, arith, length-set}
+use Rattle.std.proofs.Common.{◌≡◌, ℕ, ◌+◌, ◌-◌, ◌<◌, List, length, take, set, refl, ap, ◌∙◌, arith, length-set}
 use Rattle.std.proofs.lemmas.List.{get_or-set_same, get_or-set_other, take_more_set}
-use Rattle.std.proofs.lemmas.Bool.{cases_eq, eq-eqb, ne_eqb}
 use Rattle.std.proofs.lemmas.Bool.Decides.{nat_tests}
 use Rattle.network.specs.Nets.{at}
 use Rattle.book.specs.declared.record.Record.{Record}
@@ -20,7 +19,7 @@ back_set table a r k h =
     rw long (grind (arith, nat_tests))
 
 at_read : {A : Type 0} (read : Record → A) (f : ℕ → Record) (i : ℕ) (r : Record) (k : ℕ) → read (at f i r k) ≡ at (λ j. read (f j)) i (read r) k
-at_read read f i r k = ⊎_elim (λ (is : k ≡ i). rw (eq-eqb k i is)) (λ (not : k ≡ i → ⊥). rw (ne_eqb k i not)) (cases_eq k i)
+at_read read f i r k = grind (arith, nat_tests)
 
 -- what is read of each record, after one of them was written
 pub front_read : {A : Type 0} (read : Record → A) (table : List Record) (i : ℕ) (r : Record) (k : ℕ) → i < length table → read (front (set table i r) k) ≡ at (λ j. read (front table j)) i (read r) k
@@ -31,10 +30,7 @@ back_read read table a r k h = ap read (back_set table a r k h) ∙ at_read read
 
 -- what is read of each record, where it stays as it was in the one that is written
 pub front_same : {A : Type 0} (read : Record → A) (table : List Record) (i : ℕ) (r : Record) (k : ℕ) → i < length table → read r ≡ read (front table i) → read (front (set table i r) k) ≡ read (front table k)
-front_same read table i r k h same = ⊎_elim
-    (λ (is : k ≡ i). ap read (front_set table i r k h ∙ rw (eq-eqb k i is)) ∙ same ∙ ap (λ j. read (front table j)) (sym is))
-    (λ (not : k ≡ i → ⊥). ap read (front_set table i r k h ∙ rw (ne_eqb k i not)))
-    (cases_eq k i)
+front_same read table i r k h same = grind (arith, nat_tests, front_set table i r k h)
 
 pub back_same : {A : Type 0} (read : Record → A) (table : List Record) (i : ℕ) (r : Record) (k : ℕ) → i < length table → read r ≡ read (front table i) → read (back (set table i r) k) ≡ read (back table k)
 back_same read table i r k h same =

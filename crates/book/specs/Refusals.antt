@@ -1,5 +1,6 @@
 -- When an open book refuses an entry or a need, and the numbers of the refusals.
-use Rattle.std.specs.Prelude.{ℕ, Bool, false, cond, ◌||◌, List, [], ◌∷◌, length, Some, None, Option, ◌==◌, nat_le, nat_lt}
+use Rattle.std.specs.Prelude.{ℕ, ◌<◌, ◌≤◌, Bool, cond, ◌||◌, List, length, Some, None, Option, ◌==◌, nat_le, nat_lt}
+use Rattle.std.specs.List.{list_any}
 use Rattle.book.specs.declared.refusal.EnterRefusal.{EnterRefusal}
 use Rattle.book.specs.declared.refusal.EnterRefusal.TheVariants.{LargeEarning, LargeCost, ManyEntries, NoRecord}
 use Rattle.book.specs.declared.refusal.NeedRefusal.{NeedRefusal}
@@ -24,10 +25,16 @@ abbrev pub enter_refusal : ℕ → ℕ → ℕ → ℕ → Option EnterRefusal
 enter_refusal earning cost entries unused =
     cond (nat_lt 1000000 earning) (Some LargeEarning) (cond (nat_lt 1000000 cost) (Some LargeCost) (cond (nat_le 4096 entries) (Some ManyEntries) (cond (nat_lt unused 1) (Some NoRecord) None)))
 
+-- an entry that no question refuses
+pub record Enters (earning cost entries unused : ℕ) : Type 0 where
+  pub small_earning : earning ≤ 1000000
+  pub small_cost : cost ≤ 1000000
+  pub few : entries < 4096
+  pub room : 0 < unused
+
 -- whether x is one of the numbers
 abbrev pub among : ℕ → List ℕ → Bool
-among x [] = false
-among x (y ∷ ys) = y == x || among x ys
+among x ys = list_any (λ y. y == x) ys
 
 -- the first question whose answer is no: entry u is to need entry w, where u needs these already
 abbrev pub need_refusal : ℕ → ℕ → List ℕ → ℕ → ℕ → Option NeedRefusal

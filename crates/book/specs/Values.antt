@@ -8,11 +8,11 @@ use Rattle.book.specs.Calls.{Open}
 use Rattle.book.specs.Tables.{columns, book_in, network_in}
 
 abbrev pub open_of : OpenBook → Open
-open_of b = record { table = b.table.now; book = book_in (columns b.table.now) b.entries b.needs }
+open_of b = record { table = b.held.table.now; book = book_in (columns b.held.table.now) b.held.entries b.held.needs }
 
 -- the table of a sealed book, and its value as a network
 abbrev pub sealed_table : SealedBook → List Record
-sealed_table b = b.table.now
+sealed_table b = b.held.table.now
 
 abbrev pub sealed_value : SealedBook → Net
-sealed_value b = network_in (columns (sealed_table b)) b.entries b.needs
+sealed_value b = network_in (columns (sealed_table b)) b.held.entries b.held.needs

@@ -2,6 +2,7 @@
 #![tactic(auto)]
 
 mod entering;
+mod held;
 mod open;
 mod record;
 mod refusal;

@@ -1,15 +1,16 @@
 // One record of a book's table, and how it is changed.
-ghost use Rattle.std.specs.Prelude.{◌≡◌, ◌<◌, ◌≤◌, length, take};
+ghost use Rattle.std.specs.Prelude.{◌≡◌, ◌<◌, ◌≤◌, take};
 ghost use Rattle.book.specs.Records.{as_entry, as_arc, needing, with_arc_more};
 ghost use Rattle.book.specs.Refusals.{among};
 
 // A record serves an entry or an arc of a need, and its other fields then mean nothing.
-#[derive(Clone, Copy, PartialEq, Eq, Debug)]
+#[derive(Clone, Copy, PartialEq, Eq, Debug, Default)]
 pub struct Record {
     // of an entry: what it earns and what it costs, and once sealed what is left of them as residuals
     pub earning: u32,
     pub cost: u32,
-    // the entries that it needs, in the order of entering, and how many they are
+    // the entries that it needs, in the order of entering, and how many they are: an `ArrayVec` in place of both could not be copied,
+    // as a record is, and of four `Option`s one could be empty before one that is not
     pub needed: [u16; 4],
     pub needs: u8,
     // how many arcs leave it, and once sealed the place of the first in the index
@@ -23,7 +24,7 @@ pub struct Record {
 }
 
 impl Record {
-    // An entry without needs.
+    // An entry without needs. The amounts stay two numbers: a struct of both would be made in `enter` only to be taken apart here.
     pub(crate) fn as_entry(self, earning: u32, cost: u32) -> Record
         ensures { result ≡ as_entry self earning cost }
     {
@@ -50,7 +51,8 @@ impl Record {
 
     // The entry with one more that it needs, and the arc to it counted.
     pub(crate) fn needing(self, needed: u16) -> Record
-        requires { (self.needs < 4) × (self.arcs < 65535) }
+        requires room { self.needs < 4 }
+        requires countable { self.arcs < 65535 }
         ensures { result ≡ needing self needed }
     {
         let mut all = self.needed;
@@ -76,14 +78,9 @@ impl Record {
 
     // Whether the entry needs another already.
     pub(crate) fn has_need(self, needed: u16) -> bool
-        requires { (self.needs ≤ 4) × (length self.needed ≡ 4) }
+        requires { self.needs ≤ 4 }
         ensures { result ≡ among needed (take self.needs self.needed) }
     {
-        for j in 0..usize::from(self.needs) {
-            if self.needed[j] == needed {
-                return true;
-            }
-        }
-        false
+        self.needed[..usize::from(self.needs)].contains(&needed)
     }
 }

@@ -1,6 +1,7 @@
 // Why an open book refuses an entry or a need, and the number of each refusal.
-ghost use Rattle.std.specs.Prelude.{◌≡◌};
-ghost use Rattle.book.specs.Refusals.{enter_question, enter_refusal, need_question};
+ghost use Rattle.std.specs.Prelude.{◌≡◌, OnOk};
+ghost use Rattle.std.specs.Result.{result_err};
+ghost use Rattle.book.specs.Refusals.{enter_question, enter_refusal, Enters, need_question};
 
 // The largest amount of an entry.
 const MOST_AMOUNT: u32 = 1_000_000;
@@ -22,29 +23,30 @@ pub enum EnterRefusal {
 }
 
 impl EnterRefusal {
-    // The first question whose answer is no, where the book has so many entries and its table so many unused records.
-    pub(crate) fn first(
+    // Puts the questions to an entry, where the book has so many entries and its table so many unused records.
+    pub(crate) fn check(
         earning: u32,
         cost: u32,
         entries: usize,
         unused: usize,
-    ) -> Option<EnterRefusal>
-        ensures { result ≡ enter_refusal earning cost entries unused }
+    ) -> Result<(), EnterRefusal>
+        ensures refusal { result_err result ≡ enter_refusal earning cost entries unused }
+        ensures accepted { OnOk result (Enters earning cost entries unused) }
     {
         if earning > MOST_AMOUNT {
-            Some(EnterRefusal::LargeEarning)
+            Err(EnterRefusal::LargeEarning)
         } else if cost > MOST_AMOUNT {
-            Some(EnterRefusal::LargeCost)
+            Err(EnterRefusal::LargeCost)
         } else if entries >= MOST_ENTRIES {
-            Some(EnterRefusal::ManyEntries)
+            Err(EnterRefusal::ManyEntries)
         } else if unused < 1 {
-            Some(EnterRefusal::NoRecord)
+            Err(EnterRefusal::NoRecord)
         } else {
-            None
+            Ok(())
         }
     }
 
-    // The number of the question whose answer is no.
+    // The number of the question whose answer is no. No discriminants: a must-fail edit gives two cases one number, and has to build.
     pub fn question(self) -> u8
         ensures { result ≡ enter_question self }
     {
@@ -73,7 +75,7 @@ pub enum NeedRefusal {
 }
 
 impl NeedRefusal {
-    // The number of the question whose answer is no.
+    // The number of the question whose answer is no. No discriminants: a must-fail edit gives two cases one number, and has to build.
     pub fn question(self) -> u8
         ensures { result ≡ need_question self }
     {

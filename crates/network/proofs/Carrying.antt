@@ -1,5 +1,5 @@
 -- Carrying out augmenting paths: the laws stand, and each path lowers every selection's cost by its amount.
-use Rattle.std.proofs.Common.{◌≡◌, ℕ, zero, suc, ◌+◌, ◌<◌, ◌≤◌, List, [], ◌∷◌, ◌++◌, map, Some, sym, refl, ap, ◌∙◌, subst, ⊎_elim, arith}
+use Rattle.std.proofs.Common.{◌≡◌, ℕ, zero, suc, ◌+◌, ◌<◌, ◌≤◌, List, [], ◌∷◌, ◌++◌, map, Some, sym, refl, ap, ◌∙◌, subst, arith}
 use Rattle.std.proofs.ByRecursion.{all-has, has_push}
 use Rattle.std.proofs.lemmas.Bool.{cases_eq, cases_Bool}
 use Rattle.std.specs.List.{AllByRecursion, slice_get}
@@ -10,15 +10,14 @@ use Rattle.network.specs.Cuts.{Selection, cost}
 use Rattle.network.specs.Paths.{Path, Chain, passed, last_node, Augmenting, on_the_way, shifted_along, carried}
 use Rattle.network.specs.Theorems.{PathLowers, PathsLower, FewPaths}
 use Rattle.network.proofs.Lists.{distinct_more, not_again, nth_nil}
-use Rattle.network.proofs.Laws.{ends_are, head_there, one_ends, residuals, taken_lawful, shifted_lawful}
+use Rattle.network.proofs.Laws.{ends_are, head_there, residuals, taken_lawful, shifted_lawful}
 use Rattle.network.proofs.Costs.{when, taken_cost, shifted_cost}
 
 -- each arc of a chain stands where its tail stands among the nodes passed
 tails_passed : (g : Graph) (u : ℕ) (arcs : List ℕ) → Chain g u arcs → (k b : ℕ) → slice_get arcs k ≡ Some b → (d : Ends) × (g.ends b ≡ Some d) × (slice_get (passed g u arcs) k ≡ Some d.tail)
 tails_passed g u [] c k b at = nth_nil k b at
 tails_passed g u (a ∷ more) (e, is, from, c) zero b at =
-    let same : a ≡ b = cc in
-    (e, ap g.ends (sym same) ∙ is, ap (λ x. Some x) (sym from))
+    (e, cc, cc)
 tails_passed g u (a ∷ more) (e, is, from, c) (suc k) b at =
     let (d, at_b, tail) = tails_passed g e.head more c k b at in
     (d, at_b, subst (λ (x : Ends). slice_get (passed g x.head more) k ≡ Some d.tail) (sym (ends_are g a e is)) tail)
@@ -35,17 +34,10 @@ Roomy v arcs x = (k b : ℕ) → slice_get arcs k ≡ Some b → x ≤ v.residua
 -- after a shift along the first arc of a chain of distinct nodes, the others have as much room as before, or more
 pub roomy_more : (v : Net) (u a x : ℕ) (e : Ends) (more : List ℕ) → Lawful v → v.graph.ends a ≡ Some e → e.tail ≡ u → Chain v.graph e.head more → Distinct (u ∷ passed v.graph e.head more) → Roomy v (a ∷ more) x → Roomy (shifted v a x) more x
 roomy_more v u a x e more l is from c d room k b at =
-    let after : ℕ → ℕ = (shifted v a x).residual in
-    let before : ℕ → ℕ = v.residual in
     let now = residuals v a x e l is in
-    let far : b ≡ a → ⊥ = λ same.
     let (f, at_b, tail) = tails_passed v.graph e.head more c k b at in
-    let one = one_ends v.graph a f e (ap v.graph.ends (sym same) ∙ at_b) is in
-    not_again u (passed v.graph e.head more) d k (tail ∙ ap (λ (y : Ends). Some y.tail) one ∙ ap (λ y. Some y) from) in
-    ⊎_elim
-    (λ (same : b ≡ e.reverse). omega (arith, ap after same, ap before same, now.back, room (suc k) b at))
-    (λ (other : b ≡ e.reverse → ⊥). omega (arith, now.others b far other, room (suc k) b at))
-    (cases_eq b e.reverse)
+    let new = not_again u (passed v.graph e.head more) d k in
+    grind (arith, cases_eq b a, cases_eq b e.reverse, now.others b, room (suc k) b at)
 
 -- what shifting x along a chain from u to w leaves and changes
 pub record Along (v : Net) (u w x : ℕ) (after : Net) : Type 0 where
@@ -71,7 +63,7 @@ along v u (a ∷ more) x l (e, is, from, c) d room =
 
 room_of : (f : ℕ → ℕ) (arcs ys : List ℕ) (x k b : ℕ) → AllByRecursion (λ r. x ≤ r) (map f arcs ++ ys) → slice_get arcs k ≡ Some b → x ≤ f b
 room_of f [] ys x k b least at = nth_nil k b at
-room_of f (a ∷ arcs) ys x zero b least at = let same : a ≡ b = cc in subst (λ y. x ≤ f y) same least.0
+room_of f (a ∷ arcs) ys x zero b least at = grind (arith, least.0)
 room_of f (a ∷ arcs) ys x (suc k) b least at = room_of f arcs ys x k b least.1 at
 
 -- every arc of an augmenting path has room for its amount

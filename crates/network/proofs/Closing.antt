@@ -1,5 +1,5 @@
 -- Closed selections: they are those that cost nothing, and what is reached from a terminal is on its side of each.
-use Rattle.std.proofs.Common.{◌≡◌, ℕ, ◌<◌, Bool, true, false, not, Some, None, Option, refl, ap, subst, arith}
+use Rattle.std.proofs.Common.{◌≡◌, ℕ, ◌<◌, Bool, true, not, Some, None, Option, refl, ap, subst, arith}
 use Rattle.std.proofs.lemmas.Bool.{cases_Bool}
 use Rattle.network.specs.declared.terminal.Terminal.{Terminal}
 use Rattle.network.specs.declared.terminal.Terminal.TheVariants.{Source, Sink}
@@ -12,13 +12,10 @@ use Rattle.network.proofs.Sums.{sum_zero, part_le_sum}
 use Rattle.network.proofs.Laws.{near_there}
 
 contrary : (a b : Bool) → (a ≡ true → b ≡ true) → not b ≡ true → not a ≡ true
-contrary false b f h = refl
-contrary true true f h = h
-contrary true false f h = f refl
+contrary a b f h = grind (arith, cases_Bool a, cases_Bool b)
 
 outside : (b : Bool) → (b ≡ true → ⊥) → not b ≡ true
-outside false h = refl
-outside true h = absurd (h refl)
+outside b h = grind (arith, cases_Bool b)
 
 pub closed_free : (v : Net) (X : Selection) → Closed v X → cost v X ≡ 0
 closed_free v X c =

@@ -1,5 +1,5 @@
 -- Paths and cuts together: a path is left exactly when no selection costs nothing, and the most that paths gain is the least that selections cost.
-use Rattle.std.proofs.Common.{◌≡◌, ℕ, zero, suc, ◌<◌, ◌≤◌, false, List, [], ◌∷◌, sym, refl, ◌∙◌, subst, ⊎_elim, true≢false, arith}
+use Rattle.std.proofs.Common.{◌≡◌, ℕ, zero, suc, ◌<◌, ◌≤◌, false, List, [], ◌∷◌, sym, refl, subst, ⊎_elim, arith}
 use Rattle.network.specs.declared.mark.Mark.{Mark}
 use Rattle.network.specs.declared.mark.Mark.TheVariants.{In, Out, Either}
 use Rattle.network.specs.Nets.{Graph, Net, Lawful}
@@ -64,11 +64,11 @@ one_mark v u m k l p q =
   where
     by : (m k : Mark) → (X : Selection) × Cheapest v X → Marked v u m → Marked v u k → m ≡ k
     by In In x p q = refl
-    by In Out (X, c) p q = absurd (true≢false (sym (p X c) ∙ q X c))
-    by In Either x p (_, (Y, c, off)) = absurd (true≢false (sym (p Y c) ∙ off))
-    by Out In (X, c) p q = absurd (true≢false (sym (q X c) ∙ p X c))
+    by In Out (X, c) p q = cc (p X c, q X c)
+    by In Either x p (_, (Y, c, off)) = cc (p Y c)
+    by Out In (X, c) p q = cc (p X c, q X c)
     by Out Out x p q = refl
-    by Out Either x p ((Y, c, on), _) = absurd (true≢false (sym on ∙ p Y c))
-    by Either In x (_, (Y, c, off)) q = absurd (true≢false (sym (q Y c) ∙ off))
-    by Either Out x ((Y, c, on), _) q = absurd (true≢false (sym on ∙ q Y c))
+    by Out Either x p ((Y, c, on), _) = cc (p Y c)
+    by Either In x (_, (Y, c, off)) q = cc (q Y c)
+    by Either Out x ((Y, c, on), _) q = cc (q Y c)
     by Either Either x p q = refl

@@ -1,22 +1,16 @@
--- What the laws say of arcs and their ends, what take and shift change, and that both keep the laws.
-use Rattle.std.proofs.Common.{◌≡◌, ℕ, ◌+◌, ◌-◌, ◌<◌, ◌≤◌, Some, None, Ok, Err, Option, Result, sym, refl, ap, ◌∙◌, ⊎_elim, arith}
-use Rattle.std.proofs.lemmas.Bool.{cases_eq, cases_lt, lt-leb}
+-- What the laws say of arcs and their ends, what take and shift change, and that accepted ones keep the laws.
+use Rattle.std.proofs.Common.{◌≡◌, ℕ, ◌+◌, ◌-◌, ◌<◌, ◌≤◌, Some, None, Option, refl, ap, arith}
+use Rattle.std.proofs.lemmas.Bool.{cases_eq}
 use Rattle.std.proofs.lemmas.Bool.Decides.{nat_tests}
 use Rattle.std.specs.Option.{unwrap_or}
 use Rattle.std.specs.List.{slice_get}
-use Rattle.network.specs.declared.refusal.NetworkRefusal.{NetworkRefusal}
 use Rattle.network.specs.declared.terminal.Terminal.{Terminal}
 use Rattle.network.specs.declared.terminal.Terminal.TheVariants.{Source, Sink}
 use Rattle.network.specs.Nets.{Ends, Graph, Net, LawfulGraph, Lawful, reversed, ends_of, at, taken, shifted, reverse_of}
-use Rattle.network.specs.Answers.{done, take_answer, shift_answer, after}
 use Rattle.network.specs.Sides.{near, far}
-use Rattle.network.specs.Theorems.{TakeKeeps, ShiftKeeps}
 
 at_le : (f : ℕ → ℕ) (u x k : ℕ) → x ≤ f u → at f u x k ≤ f k
-at_le f u x k less = ⊎_elim
-    (λ (is : k ≡ u). let same = ap f is in grind (arith, nat_tests))
-    (λ (not : k ≡ u → ⊥). grind (arith, nat_tests))
-    (cases_eq k u)
+at_le f u x k less = grind (arith, nat_tests)
 
 -- a take raises no terminal residual
 pub taken_le : (v : Net) (t s : Terminal) (u x w : ℕ) → (taken v t u x).terminal s w ≤ v.terminal s w
@@ -81,28 +75,16 @@ one_ends g a e d p q = cc
 -- the reverse's reverse is the arc, so arcs with the same reverse are the same
 pub reverse_once : (g : Graph) (a b : ℕ) (e d : Ends) → LawfulGraph g → g.ends a ≡ Some e → g.ends b ≡ Some d → e.reverse ≡ d.reverse → a ≡ b
 reverse_once g a b e d l at_a at_b same =
-    ap (λ (y : Ends). y.reverse) (one_ends g e.reverse (reversed a e) (reversed b d) (l.back a e at_a) (ap g.ends same ∙ l.back b d at_b))
+    let one : reversed a e ≡ reversed b d = cc (l.back a e at_a, l.back b d at_b) in
+    ap (λ (y : Ends). y.reverse) one
 
 -- a shift leaves the sum of an arc's residual and its reverse's
 pub pair_kept : (v : Net) (a b x : ℕ) (e d : Ends) → Lawful v → v.graph.ends a ≡ Some e → v.graph.ends b ≡ Some d → x ≤ v.residual a → (shifted v a x).residual b + (shifted v a x).residual d.reverse ≡ v.residual b + v.residual d.reverse
 pair_kept v a b x e d l at_a at_b less =
     let now = residuals v a x e l at_a in
-    let after : ℕ → ℕ = (shifted v a x).residual in
-    let before : ℕ → ℕ = v.residual in
-    ⊎_elim
-    (λ (is : b ≡ a).
-    let same = ap (λ (y : Ends). y.reverse) (one_ends v.graph a e d at_a (sym (ap v.graph.ends is) ∙ at_b)) in
-    omega (arith, now.arc, now.back, ap after is, ap before is, ap after same, ap before same))
-    (λ (not : b ≡ a → ⊥). ⊎_elim
-    (λ (is : b ≡ e.reverse).
-    let same = ap (λ (y : Ends). y.reverse) (one_ends v.graph b d (reversed a e) at_b (ap v.graph.ends is ∙ l.graph.back a e at_a)) in
-    omega (arith, now.arc, now.back, ap after is, ap before is, ap after same, ap before same))
-    (λ (far : b ≡ e.reverse → ⊥).
-    let first : d.reverse ≡ a → ⊥ = λ q. far (sym (ap (λ (y : Ends). y.reverse) (one_ends v.graph a e (reversed b d) at_a (sym (ap v.graph.ends q) ∙ l.graph.back b d at_b)))) in
-    let second : d.reverse ≡ e.reverse → ⊥ = λ q. not (reverse_once v.graph b a d e l.graph at_b at_a q) in
-    omega (arith, now.others b not far, now.others d.reverse first second))
-    (cases_eq b e.reverse))
-    (cases_eq b a)
+    let back_a = l.graph.back a e at_a in
+    let back_b = l.graph.back b d at_b in
+    grind (arith, cases_eq b a, cases_eq b e.reverse, cases_eq d.reverse a, cases_eq d.reverse e.reverse, now.others b, now.others d.reverse)
 
 pub shifted_lawful : (v : Net) (a x : ℕ) (e : Ends) → Lawful v → v.graph.ends a ≡ Some e → x ≤ v.residual a → Lawful (shifted v a x)
 shifted_lawful v a x e l is less = record {
@@ -111,34 +93,8 @@ shifted_lawful v a x e l is less = record {
   small_pair = λ b d at_b. omega (arith, pair_kept v a b x e d l is at_b less, l.small_pair b d at_b);
 }
 
--- a refused change leaves the value, so only accepted ones can break a law
-after_keeps : (r : Result (Unit {0}) NetworkRefusal) (w v : Net) → (r ≡ done → Lawful w) → Lawful v → Lawful (after r w v)
-after_keeps (Ok _) w v new old = new refl
-after_keeps (Err _) w v new old = old
-
-pub take_keeps : TakeKeeps
-take_keeps v t u x l = after_keeps (take_answer v t u x) (taken v t u x) v (λ _. taken_lawful v t u x l) l
-
-pub shift_accepted : (v : Net) (a x : ℕ) → shift_answer v a x ≡ done → (e : Ends) × (v.graph.ends a ≡ Some e) × (x ≤ v.residual a)
-shift_accepted v a x ok = by (v.graph.ends a) refl
-  where
-    by : (o : Option Ends) → v.graph.ends a ≡ o → (e : Ends) × (v.graph.ends a ≡ Some e) × (x ≤ v.residual a)
-    by None is = let z : ◌≡◌ {A = ℕ} 0 1 = cc in absurd (omega arith)
-    by (Some e) is = (
-      e,
-      is,
-      ⊎_elim
-          (λ (above : v.residual a < x). let no = lt-leb x (v.residual a) above in let z : ◌≡◌ {A = ℕ} 0 1 = cc in absurd (omega arith))
-          (λ (less : x ≤ v.residual a). less)
-          (cases_lt (v.residual a) x),
-    )
-
-pub shift_keeps : ShiftKeeps
-shift_keeps v a x l = after_keeps (shift_answer v a x) (shifted v a x) v (λ ok. let (e, is, less) = shift_accepted v a x ok in shifted_lawful v a x e l is less) l
-
 -- an arc that stands at a place is there
 pub not_missing : (v : Net) (u k a : ℕ) → Lawful v → u < v.graph.nodes → slice_get (v.graph.arcs u) k ≡ Some a → v.graph.ends a ≡ None → ⊥
 not_missing v u k a l there at none =
     let (e, is, from) = l.graph.own u k a there at in
-    let z : ◌≡◌ {A = ℕ} 0 1 = cc in
-    omega arith
+    cc

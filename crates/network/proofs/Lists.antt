@@ -1,27 +1,26 @@
 -- What stands at the places of a list, and lists in which no number stands at two places.
-use Rattle.std.proofs.Common.{◌≡◌, ℕ, zero, suc, ◌<◌, ◌⊎◌, List, [], ◌∷◌, ◌++◌, length, Some, None, sym, refl, ap, ◌∙◌, subst, inl, inr, ⊎_elim, arith}
+use Rattle.std.proofs.Common.{◌≡◌, ℕ, zero, suc, ◌<◌, ◌⊎◌, List, [], ◌∷◌, ◌++◌, length, Some, None, refl, ap, subst, inl, inr, ⊎_elim, arith}
 use Rattle.std.specs.List.{AllByRecursion, slice_get}
+use Rattle.std.proofs.lemmas.Option.{slice_get_within}
 use Rattle.network.specs.Nets.{Distinct}
 
 -- nothing stands in a list of none
 pub nth_nil : {A : Type 0} (k x : ℕ) → slice_get [] k ≡ Some x → A
-nth_nil k x at = let z : ◌≡◌ {A = ℕ} 0 1 = cc in absurd (omega arith)
+nth_nil k x at = absurd cc
 
 pub nth_inside : (xs : List ℕ) (k x : ℕ) → slice_get xs k ≡ Some x → k < length xs
-nth_inside [] k x at = nth_nil k x at
-nth_inside (y ∷ xs) zero x at = omega arith
-nth_inside (y ∷ xs) (suc k) x at = omega (arith, nth_inside xs k x at)
+nth_inside xs k x at = slice_get_within xs k x at
 
 -- past the end stands nothing, so what stands somewhere stands before
 pub nth_before : (xs : List ℕ) (j k x : ℕ) → slice_get xs k ≡ None → slice_get xs j ≡ Some x → j < k
 nth_before [] j k x past at = nth_nil j x at
-nth_before (y ∷ xs) j zero x past at = let z : ◌≡◌ {A = ℕ} 0 1 = cc in absurd (omega arith)
+nth_before (y ∷ xs) j zero x past at = cc
 nth_before (y ∷ xs) zero (suc k) x past at = omega arith
 nth_before (y ∷ xs) (suc j) (suc k) x past at = omega (arith, nth_before xs j k x past at)
 
 pub all_nth : (P : ℕ → Type 0) (xs : List ℕ) (k x : ℕ) → AllByRecursion P xs → slice_get xs k ≡ Some x → P x
 all_nth P [] k x all is = nth_nil k x is
-all_nth P (y ∷ xs) zero x all is = let same : y ≡ x = cc in subst P same all.0
+all_nth P (y ∷ xs) zero x all is = subst P (cc) all.0
 all_nth P (y ∷ xs) (suc k) x all is = all_nth P xs k x all.1 is
 
 pub all_by_nth : (P : ℕ → Type 0) (xs : List ℕ) → ((k x : ℕ) → slice_get xs k ≡ Some x → P x) → AllByRecursion P xs
@@ -43,24 +42,15 @@ not_again x xs d k p = omega (arith, d 0 (suc k) x refl p)
 
 pub distinct_cons : (x : ℕ) (xs : List ℕ) → Distinct xs → ((k : ℕ) → slice_get xs k ≡ Some x → ⊥) → Distinct (x ∷ xs)
 distinct_cons x xs d new zero zero y p q = refl
-distinct_cons x xs d new zero (suc k) y p q = let same : x ≡ y = cc in absurd (new k (q ∙ ap (λ z. Some z) (sym same)))
-distinct_cons x xs d new (suc j) zero y p q = let same : x ≡ y = cc in absurd (new j (p ∙ ap (λ z. Some z) (sym same)))
+distinct_cons x xs d new zero (suc k) y p q = let never = new k in grind arith
+distinct_cons x xs d new (suc j) zero y p q = let never = new j in grind arith
 distinct_cons x xs d new (suc j) (suc k) y p q = ap suc (d j k y p q)
 
 pub distinct_one : (x : ℕ) → Distinct (x ∷ [])
 distinct_one x = distinct_cons x [] (λ j k y p q. nth_nil j y p) (λ k. nth_nil k x)
 
 pub distinct_push : (xs : List ℕ) (y : ℕ) → Distinct xs → ((k : ℕ) → slice_get xs k ≡ Some y → ⊥) → Distinct (xs ++ y ∷ [])
-distinct_push xs y d new j k x p q = ⊎_elim
-    (λ (first : slice_get xs j ≡ Some x). ⊎_elim
-    (λ (second : slice_get xs k ≡ Some x). d j k x first second)
-    (λ ((end, same) : (k ≡ length xs) × (y ≡ x)). absurd (new j (first ∙ ap (λ z. Some z) (sym same))))
-    (nth_push xs y k x q))
-    (λ ((ends, is) : (j ≡ length xs) × (y ≡ x)). ⊎_elim
-    (λ (second : slice_get xs k ≡ Some x). absurd (new k (second ∙ ap (λ z. Some z) (sym is))))
-    (λ ((end, same) : (k ≡ length xs) × (y ≡ x)). omega arith)
-    (nth_push xs y k x q))
-    (nth_push xs y j x p)
+distinct_push xs y d new j k x p q = grind (arith, d j k x, new j, new k, nth_push xs y j x p, nth_push xs y k x q)
 
 not_in_either : (x : ℕ) (xs ys : List ℕ) → ((k : ℕ) → slice_get xs k ≡ Some x → ⊥) → ((k : ℕ) → slice_get ys k ≡ Some x → ⊥) → (k : ℕ) → slice_get (xs ++ ys) k ≡ Some x → ⊥
 not_in_either x [] ys first second k at = second k at

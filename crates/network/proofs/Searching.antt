@@ -1,8 +1,9 @@
 -- A path is left, or a selection costs nothing: the nodes that are reached from the source grow until the one or the other is seen.
-use Rattle.std.proofs.Common.{◌≡◌, ℕ, zero, suc, ◌+◌, ◌<◌, ◌≤◌, Bool, true, false, cond, eqb, ltb, ◌⊎◌, List, [], ◌∷◌, ◌++◌, map, Some, None, Option, sym, refl, ap, ◌∙◌, subst, inl, inr, ⊎_elim, arith}
+use Rattle.std.proofs.Common.{◌≡◌, ℕ, zero, suc, ◌+◌, ◌<◌, ◌≤◌, Bool, true, false, cond, ltb, ◌⊎◌, List, [], ◌∷◌, ◌++◌, map, Some, None, Option, sym, refl, ap, ◌∙◌, subst, inl, inr, ⊎_elim, arith}
 use Rattle.std.proofs.ByRecursion.{All-push, All-weaker}
 use Rattle.std.proofs.lemmas.List.{map-append}
-use Rattle.std.proofs.lemmas.Bool.{cases_eq, cases_lt, cases_Bool, true≢false, lt-ltb, ltb-true, eq-eqb, ne_eqb}
+use Rattle.std.proofs.lemmas.Bool.{cases_eq, cases_lt, cases_Bool, true≢false, lt-ltb, ltb-true, ne_eqb}
+use Rattle.std.proofs.lemmas.Bool.Decides.{nat_tests}
 use Rattle.std.specs.List.{AllByRecursion}
 use Rattle.network.specs.declared.terminal.Terminal.TheVariants.{Source, Sink}
 use Rattle.network.specs.Nets.{Ends, Net, Lawful, Distinct, at}
@@ -20,7 +21,7 @@ find (suc n) f = ⊎_elim
     (λ (here : 0 < f n). inl (n, omega arith, here))
     (λ (no : f n ≤ 0). ⊎_elim
     (λ ((k, below, some) : (k : ℕ) × (k < n) × (0 < f k)). inl (k, omega arith, some))
-    (λ (none : (k : ℕ) → k < n → f k ≡ 0). inr (λ k below. ⊎_elim (λ (is : k ≡ n). omega (arith, ap f is)) (λ (far : k ≡ n → ⊥). none k (omega arith)) (cases_eq k n)))
+    (λ (none : (k : ℕ) → k < n → f k ≡ 0). inr (λ k below. grind (arith, none k)))
     (find n f))
     (cases_lt 0 (f n))
 
@@ -74,14 +75,10 @@ abbrev joined : Selection → ℕ → Selection
 joined R x = at R x true
 
 joined_keeps : (R : Selection) (x w : ℕ) → R w ≡ true → joined R x w ≡ true
-joined_keeps R x w on = by (eqb w x)
-  where
-    by : (b : Bool) → cond b true (R w) ≡ true
-    by true = refl
-    by false = on
+joined_keeps R x w on = grind (arith, nat_tests)
 
 joined_new : (R : Selection) (x w : ℕ) → w ≡ x → joined R x w ≡ true
-joined_new R x w is = ap (λ b. cond b true (R w)) (eq-eqb w x is)
+joined_new R x w is = grind (arith, nat_tests)
 
 -- the trace through an exit to its head
 trace_push : (v : Net) (R : Selection) (a : ℕ) (x : Exit v R a) → Trace v R x.ends.tail → Trace v (joined R x.ends.head) x.ends.head

@@ -26,7 +26,4 @@ sum_zero (suc n) f none = omega (arith, sum_zero n f (λ k below. none k (omega 
 pub part_le_sum : (n k : ℕ) (f : ℕ → ℕ) → k < n → f k ≤ sum_below n f
 unfolding sum_below
 part_le_sum zero k f there = absurd (omega arith)
-part_le_sum (suc n) k f there = ⊎_elim
-    (λ (is : k ≡ n). rw is (omega arith))
-    (λ (not : k ≡ n → ⊥). omega (arith, part_le_sum n k f (omega arith)))
-    (cases_eq k n)
+part_le_sum (suc n) k f there = grind (arith, cases_eq k n, part_le_sum n k f)

@@ -1,13 +1,13 @@
 -- Paths as words of a trail: they can be read back in one way only.
-use Rattle.std.proofs.Common.{◌≡◌, ℕ, [], ◌∷◌, ◌++◌, length, take, drop, sym, refl, ap, ◌∙◌, arith}
+use Rattle.std.proofs.Common.{◌≡◌, [], ◌∷◌, ◌++◌, length, take, drop, sym, refl, ap, ◌∙◌}
 use Rattle.std.proofs.lemmas.List.{take_at, drop_at}
 use Rattle.network.specs.Paths.{trail_words}
 use Rattle.network.specs.Theorems.{OneReading}
 
 pub one_reading : OneReading
 one_reading [] [] same = refl
-one_reading [] (q ∷ qs) same = let z : ◌≡◌ {A = ℕ} 0 1 = cc in absurd (omega arith)
-one_reading (p ∷ ps) [] same = let z : ◌≡◌ {A = ℕ} 0 1 = cc in absurd (omega arith)
+one_reading [] (q ∷ qs) same = cc
+one_reading (p ∷ ps) [] same = cc
 one_reading (p ∷ ps) (q ∷ qs) same =
     let long : length p.arcs ≡ length q.arcs = cc in
     let amount : p.amount ≡ q.amount = cc in

@@ -29,12 +29,9 @@ right_there n i h = rw (owner_right i, way_right i, lt-ltb (i + 1) n h)
 left_there : (n i : ℕ) → i + 1 < n → ends_among n (2 * i + 1) ≡ Some (joins Left i)
 left_there n i h = rw (owner_left i, way_left i, lt-ltb (i + 1) n h)
 
-none_is_not_some : {A : Type 0} (x : A) → None ≢ Some x
-none_is_not_some x h = let z : ◌≡◌ {A = ℕ} 0 1 = cc in omega arith
-
 some_from_test : (b : Bool) (x e : Ends) → cond b (Some x) None ≡ Some e → (b ≡ true) × (x ≡ e)
 some_from_test true x e h = (refl, cc)
-some_from_test false x e h = absurd (none_is_not_some e h)
+some_from_test false x e h = cc
 
 -- what holds of both arcs of each cell but the last holds of each arc
 each_arc : (n : ℕ) (P : ℕ → Ends → Type 0) → ((i : ℕ) → i + 1 < n → P (2 * i) (joins Right i)) → ((i : ℕ) → i + 1 < n → P (2 * i + 1) (joins Left i)) → (a : ℕ) (e : Ends) → ends_among n a ≡ Some e → P a e
@@ -50,11 +47,11 @@ each_arc n P right left a e h =
 at_place : (b c : Bool) (x y k a : ℕ) → slice_get (cond b (x ∷ []) [] ++ cond c (y ∷ []) []) k ≡ Some a → ((b ≡ true) × (k ≡ 0) × (a ≡ x)) ⊎ ((c ≡ true) × (k ≡ cond b 1 0) × (a ≡ y))
 at_place true c x y zero a h = inl (refl, refl, cc)
 at_place true true x y (suc zero) a h = inr (refl, refl, cc)
-at_place true true x y (suc (suc k)) a h = absurd (none_is_not_some a h)
-at_place true false x y (suc k) a h = absurd (none_is_not_some a h)
+at_place true true x y (suc (suc k)) a h = cc
+at_place true false x y (suc k) a h = cc
 at_place false true x y zero a h = inr (refl, refl, cc)
-at_place false true x y (suc k) a h = absurd (none_is_not_some a h)
-at_place false false x y k a h = absurd (none_is_not_some a h)
+at_place false true x y (suc k) a h = cc
+at_place false false x y k a h = cc
 
 second : (b : Bool) (x y : ℕ) → slice_get (cond b (x ∷ []) [] ++ (y ∷ [])) (cond b 1 0) ≡ Some y
 second true x y = refl

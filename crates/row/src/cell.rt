@@ -1,11 +1,11 @@
 // One cell of a row: its residuals, and how they are read and changed.
-ghost use Rattle.std.specs.Prelude.{◌≡◌, ◌≤◌};
+ghost use Rattle.std.specs.Prelude.{◌≡◌, cond, Some, None, nat_le};
 ghost use Rattle.row.specs.Cells.{Capped, capped, terminal_of, put_terminal, residual_of, moved};
 ghost use Rattle.row.specs.Rows.{way_of};
 
 use network::Terminal;
 
-#[derive(Clone, Copy, PartialEq, Eq, Debug)]
+#[derive(Clone, Copy, PartialEq, Eq, Debug, Default)]
 pub struct Cell {
     // what can still be sent from the source to the cell, and from the cell to the sink
     pub source: u64,
@@ -16,14 +16,14 @@ pub struct Cell {
 }
 
 // Which of the two arcs that a cell owns: the one to the next cell, or its reverse.
-#[derive(Clone, Copy)]
+#[derive(Clone, Copy, PartialEq, Eq, Debug)]
 pub(crate) enum Way {
     Right,
     Left,
 }
 
 impl Way {
-    // Which way the arc of a code goes.
+    // Which way the arc of a code goes. No `From`: a code also says which cell owns the arc.
     pub(crate) fn of(arc: usize) -> Way
         ensures { result ≡ way_of arc }
     {
@@ -47,7 +47,8 @@ impl Cell {
         }
     }
 
-    // What can still be sent between the cell and a terminal.
+    // What can still be sent between the cell and a terminal. One function for this and `residual`, and one for what changes them, would
+    // choose among all four amounts by one enum, and the ends of an arc would have to rule out two of its cases.
     pub(crate) fn terminal(self, terminal: Terminal) -> u64
         ensures { result ≡ terminal_of self terminal }
     {
@@ -83,22 +84,22 @@ impl Cell {
         }
     }
 
-    // The cell with an amount moved from the residual of one of its arcs to that of the other.
-    pub(crate) fn shifted(self, way: Way, amount: u64) -> Cell
-        requires { (Capped self) × (amount ≤ residual_of self way) }
-        ensures { result ≡ moved self way amount }
+    // The cell with an amount moved from the residual of one of its arcs to that of the other; none where the amount is above it.
+    pub(crate) fn shifted(self, way: Way, amount: u64) -> Option<Cell>
+        requires { Capped self }
+        ensures { result ≡ cond (nat_le amount (residual_of self way)) (Some (moved self way amount)) None }
     {
         match way {
-            Way::Right => Cell {
-                right: self.right - amount,
+            Way::Right => Some(Cell {
+                right: self.right.checked_sub(amount)?,
                 left: self.left + amount,
                 ..self
-            },
-            Way::Left => Cell {
+            }),
+            Way::Left => Some(Cell {
+                left: self.left.checked_sub(amount)?,
                 right: self.right + amount,
-                left: self.left - amount,
                 ..self
-            },
+            }),
         }
     }
 }

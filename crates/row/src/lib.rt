@@ -9,7 +9,7 @@ mod cell;
 pub use cell::Cell;
 
 // Each cell of the slice is a node, numbered by its place; those from 4,096 on are left out.
-#[derive(Drop)]
+#[derive(Debug, Drop)]
 pub struct Row<'a> {
     cells: &'a mut [Cell],
     ghost bounds: { AllCapped cells.now },

@@ -1,0 +1,26 @@
+// What an open book and a sealed one hold alike: a borrowed table, with entries from its front and the arcs of needs from its end.
+ghost use Rattle.std.specs.Prelude.{◌≡◌, ◌+◌, ◌*◌, ◌≤◌, length};
+ghost use Rattle.book.specs.Tables.{columns, SmallAmounts, HeadsThere};
+
+use super::record::Record;
+
+#[derive(Debug, Drop)]
+pub(crate) struct Held<'a> {
+    pub(crate) table: &'a mut [Record],
+    pub(crate) entries: usize,
+    pub(crate) needs: usize,
+    ghost few: { entries ≤ 4096 },
+    ghost room: { entries + 2 * needs ≤ length table.now },
+    ghost amounts: { SmallAmounts (columns table.now) entries },
+    ghost heads: { HeadsThere (columns table.now) entries needs },
+}
+
+impl<'a> Held<'a> {
+    // Gives the table back.
+    pub(crate) fn release(self) -> &'a mut [Record]
+        ensures { result.now ≡ self.entry.table.now }
+    {
+        let table = self.table;
+        table
+    }
+}
