@@ -1,5 +1,6 @@
 // Why a run is refused, and the number of each refusal.
-ghost use Rattle.std.specs.Prelude.{◌≡◌, Some, None, MatchResult};
+ghost use Rattle.std.specs.Prelude.{◌≡◌};
+ghost use Rattle.std.specs.Result.{result_err};
 ghost use Rattle.search.specs.Refusals.{question, first_refusal};
 
 // The questions put to a run, in this order.
@@ -14,7 +15,7 @@ pub enum RunRefusal {
 impl RunRefusal {
     // Puts the questions where there are so many nodes, working records and mark bytes: the first whose answer is no refuses.
     pub(crate) fn check(nodes: usize, records: usize, marks: usize) -> Result<(), RunRefusal>
-        ensures { MatchResult result (λ _. first_refusal nodes records marks ≡ None) (λ refusal. first_refusal nodes records marks ≡ Some refusal) }
+        ensures { result_err result ≡ first_refusal nodes records marks }
     {
         if records < nodes {
             return Err(RunRefusal::FewRecords);
