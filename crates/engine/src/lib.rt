@@ -24,10 +24,7 @@ pub fn plan(input: &[u8]) -> Result<Counts, PlanRefusal>
     if input.len() > MOST_BYTES {
         return Err(PlanRefusal::TooLong);
     }
-    match sheet::read(input) {
-        Ok(counts) => Ok(counts),
-        Err(refusal) => Err(PlanRefusal::Sheet(refusal)),
-    }
+    Ok(sheet::read(input)?)
 }
 
 // The answer to an input, and the text that tells it.
