@@ -1,8 +1,10 @@
 -- The needs of a record, read one after another.
-use Rattle.std.proofs.Common.{◌≡◌, ℕ, zero, suc, ◌+◌, ◌-◌, ◌*◌, ◌<◌, ◌≤◌, List, length, get_or, Some, None, sym, refl, ap, ◌∙◌, ⊎_elim, add-zero, add-one, arith}
+use Rattle.std.proofs.Common.{nat_lt, Bool, true, Option, ◌≡◌, ℕ, zero, suc, ◌+◌, ◌-◌, ◌*◌, ◌<◌, ◌≤◌, List, length, get_or, Some, None, sym, refl, ap, ◌∙◌, ⊎_elim, add-zero, add-one, arith}
 use Rattle.std.proofs.ByRecursion.{All-get_or, All-from_get_or}
 use Rattle.std.proofs.lemmas.Bool.{cases_lt}
 use Rattle.std.proofs.lemmas.Option.{slice_get-get_or, slice_get_past}
+use Rattle.std.specs.Bool.{Decides, then_some}
+use Rattle.std.specs.Option.{MatchOption}
 use Rattle.std.specs.List.{slice_get}
 use Rattle.sheet.specs.Format.{Entry}
 use Rattle.sheet.specs.Places.{number_at, needs_at}
@@ -67,23 +69,18 @@ ascends i ns o k (suc d) inside =
     let next : k + d + 1 ≡ k + suc d = omega arith in
     omega (arith, ascends i ns o k d (omega arith), o.ascending (k + d) (omega arith), ap (λ j. get_or ns j 0) next)
 
--- no need, no entry that is not there
-pub none_there : (n j : ℕ) (e : Entry) → j ≡ length e.needs - 1 → None ≡ slice_get e.needs j → There n e
-none_there n j e last is =
-    let none = nth_none e.needs j is in
-    All-from_get_or (λ k. k < n) e.needs 0 (λ k inside. absurd (omega arith))
+-- need number j of those at a place, where there are so many
+pub slice_get_needs_at : (bs : List ℕ) (p k j : ℕ) → slice_get (needs_at bs p k) j ≡ then_some (nat_lt j k) (number_at bs (p + 2 * j) 2)
+slice_get_needs_at bs p k j = grind (arith, length_needs_at bs p k, get_or_needs_at bs p k j, slice_get-get_or (needs_at bs p k) j 0, slice_get_past (needs_at bs p k) j, cases_lt j k)
 
--- the last need is there exactly when all are
-pub last_there : (n i j x : ℕ) (e : Entry) → Ordered i e.needs → j ≡ length e.needs - 1 → Some x ≡ slice_get e.needs j → x < n → There n e
-last_there n i j x e o last is below =
-    let (inside, value) = nth_some e.needs j x is in
-    All-from_get_or (λ k. k < n) e.needs 0 (λ k at.
-    let d = j - k in
-    let end : k + d ≡ j = omega arith in
-    omega (arith, ascends i e.needs o k d (omega arith), ap (λ m. get_or e.needs m 0) end)
+-- the last need tells whether the entries of all are there
+pub last_decides : (n i : ℕ) (e : Entry) (last : Option ℕ) (b : Bool) → Ordered i e.needs → last ≡ slice_get e.needs (length e.needs - 1) → MatchOption last (b ≡ true) (λ x. Decides b (x < n)) → Decides b (There n e)
+last_decides n i e None b o is h =
+    let none = nth_none e.needs (length e.needs - 1) is in
+    (λ t. All-from_get_or (λ k. k < n) e.needs 0 (λ k inside. absurd (omega arith)), λ t. h)
+last_decides n i e (Some x) b o is h =
+    let j = length e.needs - 1 in
+    let (inside, value) = nth_some e.needs j x is in (
+      λ t. let below = h.0 t in All-from_get_or (λ k. k < n) e.needs 0 (λ k at. let end : k + (j - k) ≡ j = omega arith in omega (arith, ascends i e.needs o k (j - k) (omega arith), ap (λ m. get_or e.needs m 0) end)),
+      λ there. h.1 (omega (arith, All-get_or (λ k. k < n) e.needs j 0 inside there)),
     )
-
-pub all_there : (n j x : ℕ) (e : Entry) → Some x ≡ slice_get e.needs j → There n e → x < n
-all_there n j x e is there =
-    let (inside, value) = nth_some e.needs j x is in
-    omega (arith, All-get_or (λ k. k < n) e.needs j 0 inside there)

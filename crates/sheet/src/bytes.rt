@@ -7,11 +7,7 @@ ghost use Rattle.sheet.specs.Places.{needs_at, number_at};
 fn byte_at(sheet: &[u8], at: usize, k: usize) -> u8
     ensures { result ≡ slice_index sheet.now (at + k) }
 {
-    if k < sheet.len().saturating_sub(at) {
-        sheet[at + k]
-    } else {
-        0
-    }
+    sheet.get(at.saturating_add(k)).copied().unwrap_or(0)
 }
 
 // The amount whose four bytes begin at `at`.
@@ -38,9 +34,5 @@ pub(crate) fn need_at(sheet: &[u8], at: usize, j: u8) -> u16
 pub(crate) fn nth_need(sheet: &[u8], at: usize, count: u8, j: u8) -> Option<usize>
     ensures { result ≡ slice_get (needs_at sheet.now at count) j }
 {
-    if j < count {
-        Some(usize::from(need_at(sheet, at, j)))
-    } else {
-        None
-    }
+    (j < count).then_some(usize::from(need_at(sheet, at, j)))
 }

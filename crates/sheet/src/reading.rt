@@ -38,28 +38,22 @@ impl<'a> Reader<'a> {
         if self.at >= self.sheet.len() {
             return Ok(None);
         }
-        match record_at(self.sheet, self.number, self.at) {
-            Ok(found) => {
-                self.at = found.end;
-                self.number += 1;
-                Ok(Some(found))
-            }
-            Err(fault) => Err(SheetRefusal::Faulty {
-                fault,
-                record: self.number,
-                byte: self.at,
-            }),
-        }
+        let (record, byte) = (self.number, self.at);
+        let found = record_at(self.sheet, record, byte).map_err(|fault| SheetRefusal::Faulty {
+            fault,
+            record,
+            byte,
+        })?;
+        self.at = found.end;
+        self.number += 1;
+        Ok(Some(found))
     }
 
     // The amount at a place, and 0 where there is no place.
     fn amount(&self, place: Option<usize>) -> u32
         ensures { result ≡ amount (amount_at (sheet_of self.now) place) }
     {
-        match place {
-            None => 0,
-            Some(at) => amount_at(self.sheet, at),
-        }
+        place.map_or(0, |at| amount_at(self.sheet, at))
     }
 
     // What the entry earns that stands at the places of a record; 0 where it has no earning.

@@ -87,7 +87,7 @@ fn need_count(map: u8) -> Option<u8>
 fn present(bit: u8, place: usize) -> Option<usize>
     ensures { result ≡ field bit place }
 {
-    if bit == 0 { None } else { Some(place) }
+    (bit != 0).then_some(place)
 }
 
 // Where the fields stand of a record that begins at `byte` with the bit map `map`.
@@ -114,13 +114,7 @@ fn layout(number: usize, byte: usize, map: u8, count: u8) -> Record
 fn amount_in_range(sheet: &[u8], place: Option<usize>) -> bool
     ensures { Decides result (InRange (amount_at sheet.now place)) }
 {
-    match place {
-        None => true,
-        Some(at) => {
-            let amount = amount_at(sheet, at);
-            1 <= amount && amount <= MOST_AMOUNT
-        }
-    }
+    place.is_none_or(|at| (1..=MOST_AMOUNT).contains(&amount_at(sheet, at)))
 }
 
 fn amounts_in_range(sheet: &[u8], kind: Kind) -> bool
@@ -158,9 +152,7 @@ pub(crate) fn record_at(sheet: &[u8], number: usize, at: usize) -> Result<Record
     if map >= 64 {
         return Err(Fault::HighBits);
     }
-    let Some(count) = need_count(map) else {
-        return Err(Fault::NeedGap);
-    };
+    let count = need_count(map).ok_or(Fault::NeedGap)?;
     let found = layout(number, at, map, count);
     if found.end > sheet.len() {
         return Err(Fault::CutShort);

@@ -57,8 +57,7 @@ fn needs_there(reader: &Reader, found: &Record, entries: usize) -> bool
     requires { (i : ℕ) × Ordered i (entry_at (sheet_of reader.now) found.now).needs }
     ensures { Decides result (There entries (entry_at (sheet_of reader.now) found.now)) }
 {
-    match reader.need(found, found.count.saturating_sub(1)) {
-        None => true,
-        Some(last) => last < entries,
-    }
+    reader
+        .need(found, found.count.saturating_sub(1))
+        .is_none_or(|last| last < entries)
 }
