@@ -8,7 +8,7 @@ use super::bytes::{amount_at, nth_need};
 use super::records::{Record, record_at};
 use super::refusal::SheetRefusal;
 
-#[derive(Clone, Copy)]
+#[derive(Clone, Copy, PartialEq, Eq, Debug)]
 pub struct Reader<'a> {
     sheet: &'a [u8],
     // the place of the next record's first byte, and that record's number

@@ -1,6 +1,9 @@
 // Why a sheet is refused, and the number, record and byte that each refusal tells.
-ghost use Rattle.std.specs.Prelude.{◌≡◌};
+ghost use Rattle.std.specs.Prelude.{◌≡◌, Some};
 ghost use Rattle.sheet.specs.Refusals.{question, told};
+ghost use Rattle.sheet.specs.Texts.{told_text};
+
+use std::fmt;
 
 // A fault of one record by itself. Each is a question that is put to the record, in this order.
 #[derive(Clone, Copy, PartialEq, Eq, Debug)]
@@ -59,6 +62,18 @@ pub struct Told {
     pub number: u8,
     pub record: usize,
     pub byte: usize,
+}
+
+impl fmt::Display for Told {
+    ghost output = { λ t. Some (told_text t) };
+
+    fn fmt<W: fmt::Write>(&self, f: &mut fmt::Formatter<W>) -> fmt::Result {
+        write!(
+            f,
+            "refused {} record {} byte {}",
+            self.number, self.record, self.byte
+        )
+    }
 }
 
 impl SheetRefusal {

@@ -26,13 +26,12 @@ fn count(sheet: &[u8]) -> Result<Counts, SheetRefusal>
         return Err(SheetRefusal::Empty);
     }
     let mut reader = Reader::new(sheet);
-    let mut entries = 0;
-    let mut needs = 0;
+    let mut counts = Counts::default();
     while let Some(found) = reader.next()? {
-        entries += 1;
-        needs += usize::from(found.count);
+        counts.entries += 1;
+        counts.needs += usize::from(found.count);
     }
-    Ok(Counts { entries, needs })
+    Ok(counts)
 }
 
 // Asks of each record in turn whether the entries that it needs are there, and answers the counts if all are.
