@@ -128,16 +128,8 @@ fn needs_ordered(sheet: &[u8], found: &Record) -> bool
     requires { found.now.count ≤ 4 }
     ensures { Decides result (Ordered found.now.number (needs_at sheet.now found.now.needs found.now.count)) }
 {
-    // the least number that the next need may have
-    let mut least = 0;
-    for j in 0..found.count {
-        let need = usize::from(need_at(sheet, found.needs, j));
-        if need < least || need == found.number {
-            return false;
-        }
-        least = need + 1;
-    }
-    true
+    (1..found.count).all(|j| need_at(sheet, found.needs, j - 1) < need_at(sheet, found.needs, j))
+        && (0..found.count).all(|j| usize::from(need_at(sheet, found.needs, j)) != found.number)
 }
 
 // The record that begins at `at` and has the number `number`, or the first fault that a question finds.
