@@ -125,7 +125,6 @@ fn amounts_in_range(sheet: &[u8], kind: Kind) -> bool
 
 // Whether the needs of a record ascend, and none is its own number.
 fn needs_ordered(sheet: &[u8], found: &Record) -> bool
-    requires { found.now.count ≤ 4 }
     ensures { Decides result (Ordered found.now.number (needs_at sheet.now found.now.needs found.now.count)) }
 {
     (1..found.count).all(|j| need_at(sheet, found.needs, j - 1) < need_at(sheet, found.needs, j))
