@@ -1,7 +1,6 @@
 // Numbers read from the bytes of a sheet, high byte first.
 ghost use Rattle.std.specs.Prelude.{◌≡◌, ◌+◌, ◌*◌, slice_index};
-ghost use Rattle.std.specs.List.{slice_get};
-ghost use Rattle.sheet.specs.Places.{needs_at, number_at};
+ghost use Rattle.sheet.specs.Places.{number_at};
 
 use std::array;
 
@@ -27,11 +26,4 @@ pub(crate) fn need_at(sheet: &[u8], at: usize, j: u8) -> u16
 {
     let first = 2 * usize::from(j);
     u16::from_be_bytes(array::from_fn(|k| byte_at(sheet, at, first + k)))
-}
-
-// Need number `j` of the `count` that begin at `at`, if there are so many.
-pub(crate) fn nth_need(sheet: &[u8], at: usize, count: u8, j: u8) -> Option<usize>
-    ensures { result ≡ slice_get (needs_at sheet.now at count) j }
-{
-    (j < count).then_some(usize::from(need_at(sheet, at, j)))
 }

@@ -4,7 +4,7 @@ ghost use Rattle.std.specs.List.{slice_get};
 ghost use Rattle.sheet.specs.Places.{Handed, InTurn, amount, amount_at, entry_at, start};
 ghost use Rattle.sheet.specs.Readers.{sheet_of, cursor};
 
-use super::bytes::{amount_at, nth_need};
+use super::bytes::{amount_at, need_at};
 use super::records::{Record, record_at};
 use super::refusal::SheetRefusal;
 
@@ -38,12 +38,12 @@ impl<'a> Reader<'a> {
         if self.at >= self.sheet.len() {
             return Ok(None);
         }
-        let (record, byte) = (self.number, self.at);
-        let found = record_at(self.sheet, record, byte).map_err(|fault| SheetRefusal::Faulty {
+        let refused = |fault| SheetRefusal::Faulty {
             fault,
-            record,
-            byte,
-        })?;
+            record: self.number,
+            byte: self.at,
+        };
+        let found = record_at(self.sheet, self.number, self.at).map_err(refused)?;
         self.at = found.end;
         self.number += 1;
         Ok(Some(found))
@@ -74,6 +74,6 @@ impl<'a> Reader<'a> {
     pub fn need(&self, found: &Record, j: u8) -> Option<usize>
         ensures { result ≡ slice_get (entry_at (sheet_of self.now) found.now).needs j }
     {
-        nth_need(self.sheet, found.needs, found.count, j)
+        (j < found.count).then_some(usize::from(need_at(self.sheet, found.needs, j)))
     }
 }

@@ -127,8 +127,9 @@ fn amounts_in_range(sheet: &[u8], kind: Kind) -> bool
 fn needs_ordered(sheet: &[u8], found: &Record) -> bool
     ensures { Decides result (Ordered found.now.number (needs_at sheet.now found.now.needs found.now.count)) }
 {
-    (1..found.count).all(|j| need_at(sheet, found.needs, j - 1) < need_at(sheet, found.needs, j))
-        && (0..found.count).all(|j| usize::from(need_at(sheet, found.needs, j)) != found.number)
+    let need = |j| usize::from(need_at(sheet, found.needs, j));
+    (1..found.count).all(|j| need(j - 1) < need(j))
+        && (0..found.count).all(|j| need(j) != found.number)
 }
 
 // The record that begins at `at` and has the number `number`, or the first fault that a question finds.
