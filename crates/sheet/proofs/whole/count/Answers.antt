@@ -1,11 +1,11 @@
-use Rattle.std.proofs.Common.{◌≡◌, [], length, Some, None, Ok, Err, refl, ap, ◌∙◌, true-eqb, false-eqb}
+use Rattle.std.proofs.Common.{Some, Ok, Err, refl, ap, ◌∙◌, true-eqb}
 use Rattle.std.proofs.lemmas.List.{nil_from_length}
 use Rattle.std.proofs.lemmas.Result.{err_from_is_err_and}
 use Rattle.sheet.specs.declared.refusal.SheetRefusal.TheVariants.{Empty}
 use Rattle.sheet.specs.Places.{HandedOut}
 use Rattle.sheet.specs.Readers.{cursor}
 use Rattle.sheet.proofs.Turns.{handed_at, turn_falls}
-use Rattle.sheet.proofs.Passes.{counting_none, counting_more, counting_done, fault_answers, settled}
+use Rattle.sheet.proofs.Passes.{counting_none, counting_more, fault_answers, settled}
 use Rattle.sheet.proofs.whole.count.Goals as goal
 use Rattle.sheet.proofs.whole.count.Goals.{In-Some}
 
@@ -36,9 +36,3 @@ returns-in_err-found c =
     let (x, is, same) = err_from_is_err_and c.from_residual.result c.from_residual.ensures.1 in
     let told = handed_at c.args.sheet.now _ (cursor c.loop-found.reader) (cursor c.next.new.self) _ (Err c.in_err-found.field-0.0) c.loop-found.invariant.0 refl c.in_err-found.ensures.handed in
     rw (is, same) (fault_answers _ _ _ _ _ c.loop-found.invariant.1.progress told)
-
-pub returns : goal.returns
-returns c =
-    let end = handed_at c.args.sheet.now _ (cursor c.loop-found.reader) (cursor c.next.new.self) _ (Ok None) c.loop-found.invariant.0 (ap Ok c.in_default.is) c.in_ok-found.ensures.handed in
-    let some : c.args.sheet.now ≡ [] → ⊥ = λ none. false-eqb _ 0 c.if-is_empty.ensures (ap length none) in
-    counting_done _ _ _ c.loop-found.invariant.1 some end.0
