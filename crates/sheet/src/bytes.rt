@@ -4,7 +4,7 @@ ghost use Rattle.sheet.specs.Places.{number_at};
 
 use std::array;
 
-// The byte `k` past `at`, and 0 past the sheet's end.
+// The byte `k` past `at`, and 0 past the sheet's end. A struct of a sheet and a place would be made anew at each call.
 fn byte_at(sheet: &[u8], at: usize, k: usize) -> u8
     ensures { result ≡ slice_index sheet.now (at + k) }
 {

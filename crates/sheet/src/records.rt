@@ -14,6 +14,7 @@ const MOST_ENTRIES: usize = 4_096;
 const MOST_AMOUNT: u32 = 1_000_000;
 
 // Which amounts a record has, and where in the sheet each stands.
+// It is an enum, and not two options, since the project's rules have a record's kind and places handed out.
 #[derive(Clone, Copy, PartialEq, Eq, Debug)]
 pub enum Kind {
     Bare,
@@ -34,7 +35,7 @@ impl Kind {
         }
     }
 
-    // The place of the earning, where there is one.
+    // The place of the earning, where there is one. It and the cost's go by their own names, and each reads its own variants.
     pub(crate) fn earning(self) -> Option<usize>
         ensures { result ≡ earning_place self }
     {
@@ -55,7 +56,7 @@ impl Kind {
     }
 }
 
-// A record told as its kind and places in its sheet.
+// A record told as its kind and places in its sheet: the project's rules have a reader hand out places and copy nothing.
 #[derive(Clone, Copy, PartialEq, Eq, Debug)]
 pub struct Record {
     // the number of its entry
@@ -133,6 +134,7 @@ fn needs_ordered(sheet: &[u8], found: &Record) -> bool
 }
 
 // The record that begins at `at` and has the number `number`, or the first fault that a question finds.
+// No method of the reader: that was tried, and a proof there does not know that what its slice holds are bytes.
 pub(crate) fn record_at(sheet: &[u8], number: usize, at: usize) -> Result<Record, Fault>
     requires { at < length sheet.now }
     ensures { MatchResult result (λ found. HandedOut sheet.now (record { at = at; number = number }) (record { at = found.end; number = number + 1 }) found × InTurn sheet.now (record { at = at; number = number }) (Ok (Some found))) (λ fault. First fault number (drop at sheet.now)) }

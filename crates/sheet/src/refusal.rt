@@ -23,7 +23,7 @@ pub enum Fault {
 }
 
 impl Fault {
-    // The number of the question that the record failed.
+    // The number of the question that the record failed. As discriminants, two cases of one number would not build, let alone fail.
     pub fn question(self) -> u8
         ensures { result ≡ question self }
     {
@@ -77,29 +77,23 @@ impl fmt::Display for Told {
 }
 
 impl SheetRefusal {
+    // The number of the question, and the record, that the refusal tells: a rule of the project has a method answer these.
     pub fn told(self) -> Told
         ensures { result ≡ told self }
     {
-        match self {
-            SheetRefusal::Empty => Told {
-                number: 11,
-                record: 0,
-                byte: 0,
-            },
+        let (number, record, byte) = match self {
+            SheetRefusal::Empty => (11, 0, 0),
             SheetRefusal::Faulty {
                 fault,
                 record,
                 byte,
-            } => Told {
-                number: fault.question(),
-                record,
-                byte,
-            },
-            SheetRefusal::Missing { record, byte } => Told {
-                number: 18,
-                record,
-                byte,
-            },
+            } => (fault.question(), record, byte),
+            SheetRefusal::Missing { record, byte } => (18, record, byte),
+        };
+        Told {
+            number,
+            record,
+            byte,
         }
     }
 }
