@@ -71,7 +71,8 @@ pub struct Record {
     pub end: usize,
 }
 
-// How many needs a bit map announces, or none where its need bits leave a gap from bit 2 up.
+// How many needs a bit map announces, or none where its need bits leave a gap from bit 2 up. Each run of bits stands beside
+// its count: the same by `trailing_ones` and a test that no bit is left hides them.
 fn need_count(map: u8) -> Option<u8>
     ensures { MatchOption result (((k : ℕ) × (map / 4 % 16 ≡ 2 ^ k - 1)) → ⊥) (λ k. (k ≤ 4) × (map / 4 % 16 ≡ 2 ^ k - 1)) }
 {

@@ -23,7 +23,8 @@ pub enum Fault {
 }
 
 impl Fault {
-    // The number of the question that the record failed. As discriminants, two cases of one number would not build, let alone fail.
+    // The number of the question that the record failed. A match: with discriminants, an edit that gives two cases one number
+    // would not build, and so would not show that the contract refuses it.
     pub fn question(self) -> u8
         ensures { result ≡ question self }
     {
