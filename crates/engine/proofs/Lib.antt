@@ -1,2 +1,3 @@
 -- The lemmas that the answers share.
 pub mod Ones
+pub mod Lines

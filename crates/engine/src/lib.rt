@@ -10,7 +10,7 @@ mod refusal;
 
 pub use page::Listing;
 pub use refusal::PlanRefusal;
-use sheet::{Counts, Told};
+use sheet::Counts;
 use std::alloc::{AllocError, Global};
 
 // The most bytes that an input may have.
@@ -24,10 +24,7 @@ pub fn plan(input: &[u8]) -> Result<Counts, PlanRefusal>
     if input.len() > MOST_BYTES {
         return Err(PlanRefusal::TooLong);
     }
-    match sheet::read(input) {
-        Ok(counts) => Ok(counts),
-        Err(refusal) => Err(PlanRefusal::Sheet(refusal)),
-    }
+    Ok(sheet::read(input)?)
 }
 
 // The answer to an input, and the text that tells it.
@@ -40,18 +37,12 @@ pub fn listing(heap: Global, input: &[u8]) -> Result<Listing, AllocError>
 }
 
 // The line that tells an answer.
+#[tactic(auto, using(crate::proofs::Lines::line_of_counts, crate::proofs::Lines::line_of_told))]
 fn line(heap: Global, answer: Result<Counts, PlanRefusal>) -> Result<String, AllocError>
     ensures { IfOk result (λ s. string_bytes s ≡ listing_text answer) }
 {
     match answer {
-        Ok(Counts { entries, needs }) => format!(in heap; "entries {entries} needs {needs}\n"),
-        Err(refusal) => {
-            let Told {
-                number,
-                record,
-                byte,
-            } = refusal.told();
-            format!(in heap; "refused {number} record {record} byte {byte}\n")
-        }
+        Ok(counts) => format!(in heap; "{counts}\n"),
+        Err(refusal) => format!(in heap; "{}\n", refusal.told()),
     }
 }

@@ -2,7 +2,7 @@
 use super::refusal::PlanRefusal;
 use sheet::Counts;
 
-#[derive(Drop)]
+#[derive(PartialEq, Eq, Debug, Drop)]
 pub struct Listing {
     pub answer: Result<Counts, PlanRefusal>,
     // the lines that tell the answer, each with its line feed

@@ -1,6 +1,7 @@
 // Why an input is refused, and what each refusal tells.
 ghost use Rattle.std.specs.Prelude.{◌≡◌};
 ghost use Rattle.engine.specs.Plans.{told_of};
+ghost use Rattle.engine.specs.declared.refusal.PlanRefusal.TheVariants.{Sheet};
 
 use sheet::{SheetRefusal, Told};
 
@@ -10,6 +11,14 @@ pub enum PlanRefusal {
     TooLong,
     // the sheet itself is refused
     Sheet(SheetRefusal),
+}
+
+impl From<SheetRefusal> for PlanRefusal {
+    ghost from_gives = { λ refusal plan. plan ≡ Sheet refusal };
+
+    fn from(refusal: SheetRefusal) -> Self {
+        Self::Sheet(refusal)
+    }
 }
 
 impl PlanRefusal {

@@ -1,7 +1,7 @@
 // Reads a sheet from standard input, and prints the line that tells its answer.
 #![tactic(auto)]
 
-use anyhow::anyhow;
+use anyhow::ensure;
 use std::io::Read;
 
 // A refusal is printed too, and the process then ends with status 1.
@@ -13,8 +13,6 @@ fn main(rt: HostRuntime) -> anyhow::Result<()> {
     rt.stdin().take(limit).read_to_end(&mut input)?;
     let listing = engine::listing(heap, &input)?;
     rt.print(listing.text.as_str())?;
-    if listing.answer.is_err() {
-        return Err(anyhow!("the sheet is refused"));
-    }
+    ensure!(listing.answer.is_ok(), "the sheet is refused");
     Ok(())
 }

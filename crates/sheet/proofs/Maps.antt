@@ -7,9 +7,6 @@ use Rattle.std.proofs.lemmas.Bool.{cases_lt}
 pub need_bits : (m : ℕ) → bit_and (m / 4) 15 ≡ m / 4 % 16
 need_bits m = and_mask (m / 4) 4
 
-pub low_bit : (m : ℕ) → bit_and m 1 ≡ m % 2
-low_bit m = and_mask m 1
-
 -- a map without high bits is its two amount bits and its need bits
 pub map_parts : (m : ℕ) → m < 64 → m % 2 + 2 * (m / 2 % 2) + 4 * (m / 4 % 16) ≡ m
 map_parts m low =

@@ -1,9 +1,12 @@
 -- The needs of a record, read one after another.
-use Rattle.std.proofs.Common.{◌≡◌, ℕ, zero, suc, ◌+◌, ◌-◌, ◌*◌, ◌<◌, ◌≤◌, List, length, get_or, Some, None, sym, refl, ap, ◌∙◌, ⊎_elim, add-zero, add-one, arith}
+use Rattle.std.proofs.Common.{◌≢◌, false, subst, nat_lt, Bool, true, Option, ◌≡◌, ℕ, zero, suc, ◌+◌, ◌-◌, ◌*◌, ◌<◌, ◌≤◌, List, length, get_or, Some, None, sym, refl, ap, ◌∙◌, ⊎_elim, add-zero, arith}
 use Rattle.std.proofs.ByRecursion.{All-get_or, All-from_get_or}
-use Rattle.std.proofs.lemmas.Bool.{cases_lt}
+use Rattle.std.proofs.lemmas.Bool.{cases_lt, false≢true}
 use Rattle.std.proofs.lemmas.Option.{slice_get-get_or, slice_get_past}
-use Rattle.std.specs.List.{slice_get}
+use Rattle.std.proofs.lemmas.List.FromFn.{length-range_with_len, get_or-range_with_len}
+use Rattle.std.specs.Bool.{Decides, MatchBool, then_some}
+use Rattle.std.specs.Option.{MatchOption}
+use Rattle.std.specs.List.{AllWithin, HoldsAt, range_with_len, slice_get}
 use Rattle.sheet.specs.Format.{Entry}
 use Rattle.sheet.specs.Places.{number_at, needs_at}
 use Rattle.sheet.specs.Sound.{Ordered, There}
@@ -19,38 +22,57 @@ get_or_needs_at bs p zero j h = absurd (omega arith)
 get_or_needs_at bs p (suc k) zero h = ap (λ q. number_at bs q 2) (omega arith)
 get_or_needs_at bs p (suc k) (suc j) h = get_or_needs_at bs (p + 2) k j (omega arith) ∙ ap (λ q. number_at bs q 2) (omega arith)
 
--- the first j needs ascend and are other than i, and the next may be `least` or more
-pub record OrderedTo (i : ℕ) (ns : List ℕ) (j least : ℕ) : Type 0 where
-  pub ascending : (k : ℕ) → k + 1 < j → get_or ns k 0 < get_or ns (k + 1) 0
-  pub others : (k : ℕ) → k < j → get_or ns k 0 ≡ i → ⊥
-  pub none : j ≡ 0 → least ≡ 0
-  pub last : (k : ℕ) → k + 1 ≡ j → least ≡ get_or ns k 0 + 1
+-- need number j of those at p
+abbrev pub need : List ℕ → ℕ → ℕ → ℕ
+need bs p j = number_at bs (p + 2 * j) 2
 
-pub ordered_none : (i : ℕ) (ns : List ℕ) → OrderedTo i ns 0 0
-ordered_none i ns = record { ascending = λ k h. absurd (omega arith); others = λ k h. absurd (omega arith); none = λ h. refl; last = λ k h. absurd (omega arith) }
+-- need number j is above the one before it, or not
+abbrev pub Above : List ℕ → ℕ → ℕ → Type 0
+Above bs p j = need bs p (j - 1) < need bs p j
 
-pub ordered_more : (i : ℕ) (ns : List ℕ) (j least x : ℕ) → OrderedTo i ns j least → get_or ns j 0 ≡ x → least ≤ x → (x ≡ i → ⊥) → OrderedTo i ns (j + 1) (x + 1)
-ordered_more i ns j least x h is up other = record {
-  ascending = λ k b. ⊎_elim (h.ascending k) (λ (l : j ≤ k + 1). let here : k + 1 ≡ j = omega arith in omega (arith, h.last k here, ap (λ n. get_or ns n 0) here)) (cases_lt (k + 1) j);
-  others = λ k b own. ⊎_elim (λ l. h.others k l own) (λ (l : j ≤ k). let here : k ≡ j = omega arith in other (sym is ∙ ap (λ n. get_or ns n 0) (sym here) ∙ own)) (cases_lt k j);
-  none = λ e. absurd (omega arith);
-  last = λ k e. let here : k ≡ j = omega arith in omega (arith, ap (λ n. get_or ns n 0) here);
-}
+abbrev pub NotAbove : List ℕ → ℕ → ℕ → Type 0
+NotAbove bs p j = need bs p j ≤ need bs p (j - 1)
 
-pub ordered_all : (i : ℕ) (ns : List ℕ) (j least : ℕ) → OrderedTo i ns j least → length ns ≤ j → Ordered i ns
-ordered_all i ns j least h all = record {
-  ascending = λ k b. h.ascending k (omega arith);
-  others = All-from_get_or (λ k. k ≡ i → ⊥) ns 0 (λ k b. h.others k (omega arith));
-}
+-- need number j is another number than i, or i itself
+abbrev pub Other : List ℕ → ℕ → ℕ → ℕ → Type 0
+Other bs p i j = need bs p j ≢ i
 
--- a need that is too small breaks the order
-pub not_ascending : (i : ℕ) (ns : List ℕ) (j least : ℕ) → OrderedTo i ns j least → j < length ns → get_or ns j 0 < least → Ordered i ns → ⊥
-not_ascending i ns zero least h inside low all = omega (arith, h.none refl)
-not_ascending i ns (suc j) least h inside low all =
-    omega (arith, h.last j (add-one j), all.ascending j (omega arith), ap (λ n. get_or ns n 0) (add-one j))
+abbrev pub Own : List ℕ → ℕ → ℕ → ℕ → Type 0
+Own bs p i j = need bs p j ≡ i
 
-pub own_number : (i : ℕ) (ns : List ℕ) (j : ℕ) → j < length ns → get_or ns j 0 ≡ i → Ordered i ns → ⊥
-own_number i ns j inside own all = All-get_or (λ k. k ≡ i → ⊥) ns j 0 inside all.others own
+-- what a question that was put to the numbers from a on, n of them, tells of each
+pub each_of_range : (Yes No : ℕ → Type 0) (a n : ℕ) (r : Bool) → MatchBool r (AllWithin Yes (range_with_len a n) 0 (length (range_with_len a n))) ((k : ℕ) × (k < length (range_with_len a n)) × HoldsAt No (range_with_len a n) k) → MatchBool r ((k : ℕ) → k < n → Yes (a + k)) ((k : ℕ) × (k < n) × No (a + k))
+each_of_range Yes No a n true h = λ k inside. subst Yes (get_or-range_with_len a n k 0 inside) (h k 0 (omega arith) (omega (arith, length-range_with_len a n)))
+each_of_range Yes No a n false (k, within, holds) =
+    let inside : k < n = omega (arith, length-range_with_len a n) in
+    (k, inside, subst No (get_or-range_with_len a n k 0 inside) (holds 0))
+
+-- the needs at one place and the next of the list are those that are read there
+pair_at : (bs : List ℕ) (p k j : ℕ) → j < k - 1 → (get_or (needs_at bs p k) j 0 ≡ need bs p (1 + j - 1)) × (get_or (needs_at bs p k) (j + 1) 0 ≡ need bs p (1 + j))
+pair_at bs p k j inside = (
+  get_or_needs_at bs p k j (omega arith) ∙ ap (need bs p) (omega arith),
+  get_or_needs_at bs p k (j + 1) (omega arith) ∙ ap (need bs p) (omega arith),
+)
+
+-- a need that is not above the one before it
+pub not_ascending : (bs : List ℕ) (p k i j : ℕ) → j < k - 1 → NotAbove bs p (1 + j) → Ordered i (needs_at bs p k) → ⊥
+not_ascending bs p k i j inside down o = omega (arith, o.ascending j (omega (arith, length_needs_at bs p k)), pair_at bs p k j inside)
+
+-- among needs that ascend, the answer to whether each is another than i
+pub ordered_decides : (bs : List ℕ) (p k i : ℕ) (b : Bool) → ((j : ℕ) → j < k - 1 → Above bs p (1 + j)) → MatchBool b ((j : ℕ) → j < k → Other bs p i (0 + j)) ((j : ℕ) × (j < k) × Own bs p i (0 + j)) → Decides b (Ordered i (needs_at bs p k))
+ordered_decides bs p k i true up h =
+    let long = length_needs_at bs p k in (
+      λ t. record {
+        ascending = λ j inside. omega (arith, up j (omega arith), pair_at bs p k j (omega arith));
+        others = All-from_get_or (λ n. n ≢ i) (needs_at bs p k) 0 (λ j inside own. h j (omega arith) (ap (need bs p) (omega arith) ∙ sym (get_or_needs_at bs p k j (omega arith)) ∙ own));
+      },
+      λ o. refl,
+    )
+ordered_decides bs p k i false up (j, inside, own) =
+    let long = length_needs_at bs p k in (
+      λ t. absurd (false≢true t),
+      λ o. absurd (All-get_or (λ n. n ≢ i) (needs_at bs p k) j 0 (omega arith) o.others (get_or_needs_at bs p k j inside ∙ ap (need bs p) (omega arith) ∙ own)),
+    )
 
 -- what an answer for number j tells of a list
 nth_none : (ns : List ℕ) (j : ℕ) → None ≡ slice_get ns j → length ns ≤ j
@@ -67,23 +89,18 @@ ascends i ns o k (suc d) inside =
     let next : k + d + 1 ≡ k + suc d = omega arith in
     omega (arith, ascends i ns o k d (omega arith), o.ascending (k + d) (omega arith), ap (λ j. get_or ns j 0) next)
 
--- no need, no entry that is not there
-pub none_there : (n j : ℕ) (e : Entry) → j ≡ length e.needs - 1 → None ≡ slice_get e.needs j → There n e
-none_there n j e last is =
-    let none = nth_none e.needs j is in
-    All-from_get_or (λ k. k < n) e.needs 0 (λ k inside. absurd (omega arith))
+-- need number j of those at a place, where there are so many
+pub slice_get_needs_at : (bs : List ℕ) (p k j : ℕ) → slice_get (needs_at bs p k) j ≡ then_some (nat_lt j k) (number_at bs (p + 2 * j) 2)
+slice_get_needs_at bs p k j = grind (arith, length_needs_at bs p k, get_or_needs_at bs p k j, slice_get-get_or (needs_at bs p k) j 0, slice_get_past (needs_at bs p k) j, cases_lt j k)
 
--- the last need is there exactly when all are
-pub last_there : (n i j x : ℕ) (e : Entry) → Ordered i e.needs → j ≡ length e.needs - 1 → Some x ≡ slice_get e.needs j → x < n → There n e
-last_there n i j x e o last is below =
-    let (inside, value) = nth_some e.needs j x is in
-    All-from_get_or (λ k. k < n) e.needs 0 (λ k at.
-    let d = j - k in
-    let end : k + d ≡ j = omega arith in
-    omega (arith, ascends i e.needs o k d (omega arith), ap (λ m. get_or e.needs m 0) end)
+-- the last need tells whether the entries of all are there
+pub last_decides : (n i : ℕ) (e : Entry) (last : Option ℕ) (b : Bool) → Ordered i e.needs → last ≡ slice_get e.needs (length e.needs - 1) → MatchOption last (b ≡ true) (λ x. Decides b (x < n)) → Decides b (There n e)
+last_decides n i e None b o is h =
+    let none = nth_none e.needs (length e.needs - 1) is in
+    (λ t. All-from_get_or (λ k. k < n) e.needs 0 (λ k inside. absurd (omega arith)), λ t. h)
+last_decides n i e (Some x) b o is h =
+    let j = length e.needs - 1 in
+    let (inside, value) = nth_some e.needs j x is in (
+      λ t. let below = h.0 t in All-from_get_or (λ k. k < n) e.needs 0 (λ k at. let end : k + (j - k) ≡ j = omega arith in omega (arith, ascends i e.needs o k (j - k) (omega arith), ap (λ m. get_or e.needs m 0) end)),
+      λ there. h.1 (omega (arith, All-get_or (λ k. k < n) e.needs j 0 inside there)),
     )
-
-pub all_there : (n j x : ℕ) (e : Entry) → Some x ≡ slice_get e.needs j → There n e → x < n
-all_there n j x e is there =
-    let (inside, value) = nth_some e.needs j x is in
-    omega (arith, All-get_or (λ k. k < n) e.needs j 0 inside there)

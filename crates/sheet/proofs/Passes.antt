@@ -31,18 +31,18 @@ settled bs r a = record {
 }
 
 -- the first pass: what it has read, and how many entries and needs that is
-pub record Counting (bs : List ℕ) (from : Cursor) (entries needs : ℕ) : Type 0 where
+pub record Counting (bs : List ℕ) (from : Cursor) (n : Counts) : Type 0 where
   pub read : List Entry
   pub progress : Progress bs read from
-  pub entries_are : entries ≡ length read
-  pub needs_are : needs ≡ need_count read
-  pub few : needs ≤ 4 * entries
+  pub entries_are : n.entries ≡ length read
+  pub needs_are : n.needs ≡ need_count read
+  pub few : n.needs ≤ 4 * n.entries
 
-pub counting_none : (bs : List ℕ) → Counting bs start 0 0
-counting_none bs = record { read = []; progress = progress_none bs; entries_are = refl; needs_are = refl; few = omega arith }
+pub counting_none : (bs : List ℕ) (from : Cursor) (n : Counts) → from ≡ start → n.entries ≡ 0 → n.needs ≡ 0 → Counting bs from n
+counting_none bs from n begins entries needs = record { read = []; progress = rw begins (progress_none bs); entries_are = entries; needs_are = needs; few = omega arith }
 
-pub counting_more : (bs : List ℕ) (from to : Cursor) (entries needs : ℕ) (r : Record) → Counting bs from entries needs → HandedOut bs from to r → Counting bs to (entries + 1) (needs + r.count)
-counting_more bs from to entries needs r c h =
+pub counting_more : (bs : List ℕ) (from to : Cursor) (n : Counts) (r : Record) → Counting bs from n → HandedOut bs from to r → Counting bs to (record { entries = n.entries + 1; needs = n.needs + r.count })
+counting_more bs from to n r c h =
     let e = entry_at bs r in
     let count : r.count ≡ length e.needs = ap (λ (x : Record). x.count) h.places in
     let few = h.sound.fits.few in
@@ -54,8 +54,8 @@ counting_more bs from to entries needs r c h =
       few = omega (arith, c.few);
     }
 
-pub counting_done : (bs : List ℕ) (from : Cursor) (entries needs : ℕ) → Counting bs from entries needs → (bs ≡ [] → ⊥) → length bs ≤ from.at → Counted bs (record { entries = entries; needs = needs })
-counting_done bs from entries needs c some end = record {
+pub counting_done : (bs : List ℕ) (from : Cursor) (n : Counts) → Counting bs from n → (bs ≡ [] → ⊥) → length bs ≤ from.at → Counted bs n
+counting_done bs from n c some end = record {
   entries = c.read;
   sheet = progress_done bs c.read from c.progress end;
   some = some;

@@ -2,7 +2,7 @@
 use Rattle.std.proofs.Common.{◌≡◌, ℕ, ◌+◌, ◌-◌, ◌/◌, ◌%◌, ◌^◌, ◌<◌, ◌≤◌, List, ◌++◌, length, get_or, drop, sym, refl, ap, ◌∙◌, subst, add-zero, arith}
 use Rattle.std.proofs.lemmas.List.{get_or-drop, length-drop, length-append}
 use Rattle.sheet.specs.declared.records.Record.{Record}
-use Rattle.sheet.specs.declared.refusal.Fault.TheVariants.{HighBits, NeedGap, CutShort, AmountRange, NeedOrder}
+use Rattle.sheet.specs.declared.refusal.Fault.TheVariants.{NeedGap, CutShort, AmountRange, NeedOrder}
 use Rattle.sheet.specs.Format.{Entry, bit_map, entry_bytes}
 use Rattle.sheet.specs.Sound.{Fits, InRange, Ordered}
 use Rattle.sheet.specs.Answers.{Begins, Free, First}
@@ -50,15 +50,6 @@ laid_is bs i p m k r small start within byte low run few is =
 -- the first byte of what is left is the one at the place
 pub head_at : (bs : List ℕ) (p : ℕ) → get_or (drop p bs) 0 0 ≡ get_or bs p 0
 head_at bs p = get_or-drop p bs 0 0 ∙ ap (λ q. get_or bs q 0) (add-zero p)
-
-pub high_bits : (bs : List ℕ) (i p : ℕ) → i < 4096 → 64 ≤ get_or bs p 0 → First HighBits i (drop p bs)
-high_bits bs i p early high = record { before = (early, tt); fails = λ low. omega (arith, head_at bs p) }
-
-pub need_gap : (bs : List ℕ) (i p : ℕ) → i < 4096 → get_or bs p 0 < 64 → (((k : ℕ) × (get_or bs p 0 / 4 % 16 ≡ 2 ^ k - 1)) → ⊥) → First NeedGap i (drop p bs)
-need_gap bs i p early low gap = record {
-  before = (early, (omega (arith, head_at bs p), tt));
-  fails = λ run. gap (run.0, ap (λ m. m / 4 % 16) (sym (head_at bs p)) ∙ run.1);
-}
 
 module _ (bs : List ℕ) (i p : ℕ) (r : Record) (l : Laid bs i p r) where
   head : get_or (drop p bs) 0 0 ≡ l.map

@@ -1,11 +1,14 @@
 -- What a reader hands out, turn by turn, and what it has read so far.
-use Rattle.std.proofs.Common.{◌≡◌, ℕ, suc, ◌+◌, ◌-◌, ◌<◌, ◌≤◌, List, [], ◌∷◌, ◌++◌, length, drop, Some, None, Ok, Err, Option, Result, sym, refl, ap, ◌∙◌, subst, add-zero, arith}
+use Rattle.std.proofs.Common.{false, ◌≡◌, ℕ, suc, ◌+◌, ◌-◌, ◌<◌, ◌≤◌, List, [], ◌∷◌, ◌++◌, length, drop, Some, None, Ok, Err, Option, Result, sym, refl, ap, ◌∙◌, subst, add-zero, arith}
 use Rattle.std.proofs.lemmas.List.{append_assoc, append-nil, length-append, length-drop, length_push, drop_all, flat_map_more}
 use Rattle.sheet.specs.declared.records.Record.{Record}
+use Rattle.std.proofs.lemmas.Bool.{false≢true}
+use Rattle.std.specs.Result.{MatchResult, is_ok}
+use Rattle.sheet.specs.declared.refusal.Fault.{Fault}
 use Rattle.sheet.specs.declared.refusal.SheetRefusal.{SheetRefusal}
 use Rattle.sheet.specs.Format.{Entry, entry_bytes, sheet_bytes}
 use Rattle.sheet.specs.Sound.{Sound, Numbered}
-use Rattle.sheet.specs.Answers.{SoundSheet, SheetOf, Answers}
+use Rattle.sheet.specs.Answers.{First, SoundSheet, SheetOf, Answers}
 use Rattle.sheet.specs.Places.HandsOut.{none, more}
 use Rattle.sheet.specs.Places.{entry_at, placed, Cursor, start, HandedOut, HandsOut, Refused, Handed, InTurn}
 use Rattle.sheet.proofs.Entries.{entry_same, length_entry}
@@ -14,6 +17,11 @@ use Rattle.sheet.proofs.Sheets.{sound_free, sound_same}
 -- an entry's record has a byte at least
 pub entry_some : (e : Entry) → 0 < length (entry_bytes e)
 entry_some e = omega (arith, length_entry e)
+
+-- where the record at a cursor is refused, no sound record stands
+pub no_turn : (P : Record → Type 0) (bs : List ℕ) (from : Cursor) (found : Result Record Fault) (r : Result (Option Record) SheetRefusal) → is_ok found ≡ false → MatchResult found P (λ fault. First fault from.number (drop from.at bs)) → InTurn bs from r
+no_turn P bs from (Ok x) r refused h = absurd (false≢true (sym refused))
+no_turn P bs from (Err fault) r refused h = λ e tail sound whole. absurd (h.fails (sound_free from.number (drop from.at bs) e tail sound whole fault))
 
 -- what stands next is what is handed out
 pub in_turn : (bs : List ℕ) (from to : Cursor) (r : Result (Option Record) SheetRefusal) → Handed bs from to r → InTurn bs from r

@@ -7,3 +7,4 @@ pub mod Places
 pub mod Layout
 pub mod Readers
 pub mod Wholes
+pub mod Texts

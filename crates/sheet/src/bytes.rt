@@ -1,46 +1,29 @@
 // Numbers read from the bytes of a sheet, high byte first.
 ghost use Rattle.std.specs.Prelude.{◌≡◌, ◌+◌, ◌*◌, slice_index};
-ghost use Rattle.std.specs.List.{slice_get};
-ghost use Rattle.sheet.specs.Places.{needs_at, number_at};
+ghost use Rattle.sheet.specs.Places.{number_at};
 
-// The byte `k` past `at`, and 0 past the sheet's end.
+use std::array;
+
+// The byte `k` past `at`, and 0 past the sheet's end. A struct of a sheet and a place would be made anew at each call.
 fn byte_at(sheet: &[u8], at: usize, k: usize) -> u8
     ensures { result ≡ slice_index sheet.now (at + k) }
 {
-    if k < sheet.len().saturating_sub(at) {
-        sheet[at + k]
-    } else {
-        0
-    }
+    sheet.get(at.saturating_add(k)).copied().unwrap_or(0)
 }
 
 // The amount whose four bytes begin at `at`.
+#[tactic(auto, unfolding(crate::specs::Places::number_at))]
 pub(crate) fn amount_at(sheet: &[u8], at: usize) -> u32
     ensures { result ≡ number_at sheet.now at 4 }
 {
-    u32::from_be_bytes([
-        byte_at(sheet, at, 0),
-        byte_at(sheet, at, 1),
-        byte_at(sheet, at, 2),
-        byte_at(sheet, at, 3),
-    ])
+    u32::from_be_bytes(array::from_fn(|k| byte_at(sheet, at, k)))
 }
 
 // Need number `j` of those that begin at `at`.
+#[tactic(auto, unfolding(crate::specs::Places::number_at))]
 pub(crate) fn need_at(sheet: &[u8], at: usize, j: u8) -> u16
     ensures { result ≡ number_at sheet.now (at + 2 * j) 2 }
 {
-    let k = 2 * usize::from(j);
-    u16::from_be_bytes([byte_at(sheet, at, k), byte_at(sheet, at, k + 1)])
-}
-
-// Need number `j` of the `count` that begin at `at`, if there are so many.
-pub(crate) fn nth_need(sheet: &[u8], at: usize, count: u8, j: u8) -> Option<usize>
-    ensures { result ≡ slice_get (needs_at sheet.now at count) j }
-{
-    if j < count {
-        Some(usize::from(need_at(sheet, at, j)))
-    } else {
-        None
-    }
+    let first = 2 * usize::from(j);
+    u16::from_be_bytes(array::from_fn(|k| byte_at(sheet, at, first + k)))
 }

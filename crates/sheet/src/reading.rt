@@ -4,11 +4,11 @@ ghost use Rattle.std.specs.List.{slice_get};
 ghost use Rattle.sheet.specs.Places.{Handed, InTurn, amount, amount_at, entry_at, start};
 ghost use Rattle.sheet.specs.Readers.{sheet_of, cursor};
 
-use super::bytes::{amount_at, nth_need};
+use super::bytes::{amount_at, need_at};
 use super::records::{Record, record_at};
 use super::refusal::SheetRefusal;
 
-#[derive(Clone, Copy)]
+#[derive(Clone, Copy, PartialEq, Eq, Debug)]
 pub struct Reader<'a> {
     sheet: &'a [u8],
     // the place of the next record's first byte, and that record's number
@@ -38,28 +38,22 @@ impl<'a> Reader<'a> {
         if self.at >= self.sheet.len() {
             return Ok(None);
         }
-        match record_at(self.sheet, self.number, self.at) {
-            Ok(found) => {
-                self.at = found.end;
-                self.number += 1;
-                Ok(Some(found))
-            }
-            Err(fault) => Err(SheetRefusal::Faulty {
-                fault,
-                record: self.number,
-                byte: self.at,
-            }),
-        }
+        let refused = |fault| SheetRefusal::Faulty {
+            fault,
+            record: self.number,
+            byte: self.at,
+        };
+        let found = record_at(self.sheet, self.number, self.at).map_err(refused)?;
+        self.at = found.end;
+        self.number += 1;
+        Ok(Some(found))
     }
 
     // The amount at a place, and 0 where there is no place.
     fn amount(&self, place: Option<usize>) -> u32
         ensures { result ≡ amount (amount_at (sheet_of self.now) place) }
     {
-        match place {
-            None => 0,
-            Some(at) => amount_at(self.sheet, at),
-        }
+        place.map_or(0, |at| amount_at(self.sheet, at))
     }
 
     // What the entry earns that stands at the places of a record; 0 where it has no earning.
@@ -80,6 +74,6 @@ impl<'a> Reader<'a> {
     pub fn need(&self, found: &Record, j: u8) -> Option<usize>
         ensures { result ≡ slice_get (entry_at (sheet_of self.now) found.now).needs j }
     {
-        nth_need(self.sheet, found.needs, found.count, j)
+        (j < found.count).then_some(usize::from(need_at(self.sheet, found.needs, j)))
     }
 }

@@ -14,6 +14,7 @@ const MOST_ENTRIES: usize = 4_096;
 const MOST_AMOUNT: u32 = 1_000_000;
 
 // Which amounts a record has, and where in the sheet each stands.
+// It is an enum, and not two options, since the project's rules have a record's kind and places handed out.
 #[derive(Clone, Copy, PartialEq, Eq, Debug)]
 pub enum Kind {
     Bare,
@@ -34,7 +35,7 @@ impl Kind {
         }
     }
 
-    // The place of the earning, where there is one.
+    // The place of the earning, where there is one. It and the cost's go by their own names, and each reads its own variants.
     pub(crate) fn earning(self) -> Option<usize>
         ensures { result ≡ earning_place self }
     {
@@ -55,7 +56,7 @@ impl Kind {
     }
 }
 
-// A record told as its kind and places in its sheet.
+// A record told as its kind and places in its sheet: the project's rules have a reader hand out places and copy nothing.
 #[derive(Clone, Copy, PartialEq, Eq, Debug)]
 pub struct Record {
     // the number of its entry
@@ -70,7 +71,8 @@ pub struct Record {
     pub end: usize,
 }
 
-// How many needs a bit map announces, or none where its need bits leave a gap from bit 2 up.
+// How many needs a bit map announces, or none where its need bits leave a gap from bit 2 up. Each run of bits stands beside
+// its count: the same by `trailing_ones` and a test that no bit is left hides them.
 fn need_count(map: u8) -> Option<u8>
     ensures { MatchOption result (((k : ℕ) × (map / 4 % 16 ≡ 2 ^ k - 1)) → ⊥) (λ k. (k ≤ 4) × (map / 4 % 16 ≡ 2 ^ k - 1)) }
 {
@@ -87,7 +89,7 @@ fn need_count(map: u8) -> Option<u8>
 fn present(bit: u8, place: usize) -> Option<usize>
     ensures { result ≡ field bit place }
 {
-    if bit == 0 { None } else { Some(place) }
+    (bit != 0).then_some(place)
 }
 
 // Where the fields stand of a record that begins at `byte` with the bit map `map`.
@@ -114,13 +116,7 @@ fn layout(number: usize, byte: usize, map: u8, count: u8) -> Record
 fn amount_in_range(sheet: &[u8], place: Option<usize>) -> bool
     ensures { Decides result (InRange (amount_at sheet.now place)) }
 {
-    match place {
-        None => true,
-        Some(at) => {
-            let amount = amount_at(sheet, at);
-            1 <= amount && amount <= MOST_AMOUNT
-        }
-    }
+    place.is_none_or(|at| (1..=MOST_AMOUNT).contains(&amount_at(sheet, at)))
 }
 
 fn amounts_in_range(sheet: &[u8], kind: Kind) -> bool
@@ -131,22 +127,15 @@ fn amounts_in_range(sheet: &[u8], kind: Kind) -> bool
 
 // Whether the needs of a record ascend, and none is its own number.
 fn needs_ordered(sheet: &[u8], found: &Record) -> bool
-    requires { found.now.count ≤ 4 }
     ensures { Decides result (Ordered found.now.number (needs_at sheet.now found.now.needs found.now.count)) }
 {
-    // the least number that the next need may have
-    let mut least = 0;
-    for j in 0..found.count {
-        let need = usize::from(need_at(sheet, found.needs, j));
-        if need < least || need == found.number {
-            return false;
-        }
-        least = need + 1;
-    }
-    true
+    let need = |j| usize::from(need_at(sheet, found.needs, j));
+    (1..found.count).all(|j| need(j - 1) < need(j))
+        && (0..found.count).all(|j| need(j) != found.number)
 }
 
 // The record that begins at `at` and has the number `number`, or the first fault that a question finds.
+// No method of the reader: that was tried, and a proof there does not know that what its slice holds are bytes.
 pub(crate) fn record_at(sheet: &[u8], number: usize, at: usize) -> Result<Record, Fault>
     requires { at < length sheet.now }
     ensures { MatchResult result (λ found. HandedOut sheet.now (record { at = at; number = number }) (record { at = found.end; number = number + 1 }) found × InTurn sheet.now (record { at = at; number = number }) (Ok (Some found))) (λ fault. First fault number (drop at sheet.now)) }
@@ -158,9 +147,7 @@ pub(crate) fn record_at(sheet: &[u8], number: usize, at: usize) -> Result<Record
     if map >= 64 {
         return Err(Fault::HighBits);
     }
-    let Some(count) = need_count(map) else {
-        return Err(Fault::NeedGap);
-    };
+    let count = need_count(map).ok_or(Fault::NeedGap)?;
     let found = layout(number, at, map, count);
     if found.end > sheet.len() {
         return Err(Fault::CutShort);

@@ -1,6 +1,9 @@
 // Why a sheet is refused, and the number, record and byte that each refusal tells.
-ghost use Rattle.std.specs.Prelude.{◌≡◌};
+ghost use Rattle.std.specs.Prelude.{◌≡◌, Some};
 ghost use Rattle.sheet.specs.Refusals.{question, told};
+ghost use Rattle.sheet.specs.Texts.{told_text};
+
+use std::fmt;
 
 // A fault of one record by itself. Each is a question that is put to the record, in this order.
 #[derive(Clone, Copy, PartialEq, Eq, Debug)]
@@ -20,7 +23,8 @@ pub enum Fault {
 }
 
 impl Fault {
-    // The number of the question that the record failed.
+    // The number of the question that the record failed. A match: with discriminants, an edit that gives two cases one number
+    // would not build, and so would not show that the contract refuses it.
     pub fn question(self) -> u8
         ensures { result ≡ question self }
     {
@@ -61,30 +65,36 @@ pub struct Told {
     pub byte: usize,
 }
 
+impl fmt::Display for Told {
+    ghost output = { λ t. Some (told_text t) };
+
+    fn fmt<W: fmt::Write>(&self, f: &mut fmt::Formatter<W>) -> fmt::Result {
+        write!(
+            f,
+            "refused {} record {} byte {}",
+            self.number, self.record, self.byte
+        )
+    }
+}
+
 impl SheetRefusal {
+    // The number of the question, and the record, that the refusal tells: a rule of the project has a method answer these.
     pub fn told(self) -> Told
         ensures { result ≡ told self }
     {
-        match self {
-            SheetRefusal::Empty => Told {
-                number: 11,
-                record: 0,
-                byte: 0,
-            },
+        let (number, record, byte) = match self {
+            SheetRefusal::Empty => (11, 0, 0),
             SheetRefusal::Faulty {
                 fault,
                 record,
                 byte,
-            } => Told {
-                number: fault.question(),
-                record,
-                byte,
-            },
-            SheetRefusal::Missing { record, byte } => Told {
-                number: 18,
-                record,
-                byte,
-            },
+            } => (fault.question(), record, byte),
+            SheetRefusal::Missing { record, byte } => (18, record, byte),
+        };
+        Told {
+            number,
+            record,
+            byte,
         }
     }
 }

@@ -26,13 +26,12 @@ fn count(sheet: &[u8]) -> Result<Counts, SheetRefusal>
         return Err(SheetRefusal::Empty);
     }
     let mut reader = Reader::new(sheet);
-    let mut entries = 0;
-    let mut needs = 0;
+    let mut counts = Counts::default();
     while let Some(found) = reader.next()? {
-        entries += 1;
-        needs += usize::from(found.count);
+        counts.entries += 1;
+        counts.needs += usize::from(found.count);
     }
-    Ok(Counts { entries, needs })
+    Ok(counts)
 }
 
 // Asks of each record in turn whether the entries that it needs are there, and answers the counts if all are.
@@ -57,8 +56,7 @@ fn needs_there(reader: &Reader, found: &Record, entries: usize) -> bool
     requires { (i : ℕ) × Ordered i (entry_at (sheet_of reader.now) found.now).needs }
     ensures { Decides result (There entries (entry_at (sheet_of reader.now) found.now)) }
 {
-    match reader.need(found, found.count.saturating_sub(1)) {
-        None => true,
-        Some(last) => last < entries,
-    }
+    reader
+        .need(found, found.count.saturating_sub(1))
+        .is_none_or(|last| last < entries)
 }

@@ -1,44 +1,30 @@
-use Rattle.std.proofs.Common.{◌≡◌, ℕ, ◌<◌, List, length, get_or, sym, refl, ◌∙◌, arith}
+use Rattle.std.proofs.Common.{rules, ℕ, ◌-◌, true, false, refl, sym, ◌∙◌, arith}
 use Rattle.std.proofs.lemmas.Bool.{false≢true}
-use Rattle.sheet.specs.Places.{needs_at}
-use Rattle.sheet.proofs.Needs.{length_needs_at, get_or_needs_at, ordered_none, ordered_more, ordered_all, not_ascending, own_number}
+use Rattle.std.proofs.lemmas.Iterator.{YieldsList-from_range, cases_from_all}
+use borrow.Author.Tests.{tests}
+use Rattle.sheet.proofs.Needs.{Above, NotAbove, Other, Own, each_of_range, ordered_decides, not_ascending}
 use Rattle.sheet.proofs.records.needs_ordered.Goals as goal
-use Rattle.sheet.proofs.records.needs_ordered.Goals.{After-from-need, then-need-least-via-then-need-least, then-need-least-via-else-need-least+then-need-found}
 
--- the record's needs, and the one that this turn reads
-ns : After-from-need → List ℕ
-ns c = needs_at c.args.sheet.now c.args.found.now.needs c.args.found.now.count
+pub returns-then-all : goal.returns-then-all
+returns-then-all c =
+    let bs = c.args.sheet.now in
+    let r = c.args.found.now in
+    let above : ℕ → Type 0 = Above bs r.needs in
+    let below : ℕ → Type 0 = NotAbove bs r.needs in
+    let other : ℕ → Type 0 = Other bs r.needs r.number in
+    let own : ℕ → Type 0 = Own bs r.needs r.number in
+    let up = each_of_range above below 1 (r.count - 1) true
+    (cases_from_all _ _ _ above below c.if-all.ensures.ran (YieldsList-from_range 1 r.count _ refl refl) (λ x q k. search (rules, tests)) (λ x q k. search (rules, tests))) in
+    let others = each_of_range other own 0 r.count c.all-then-all.result
+    (cases_from_all _ _ _ other own c.all-then-all.ensures.ran (YieldsList-from_range 0 r.count _ refl (omega arith)) (λ x q k. search (rules, tests)) (λ x q k. search (rules, tests))) in
+    ordered_decides bs r.needs r.count r.number c.all-then-all.result up others
 
-here : (c : After-from-need) → get_or (ns c) c.loop-j.j 0 ≡ c.from-need.result
-unfolding ns
-here c =
-    get_or_needs_at c.args.sheet.now c.args.found.now.needs c.args.found.now.count c.loop-j.j c.loop-j-test.true
-    ∙ sym c.need_at.ensures ∙ sym c.from-need.ensures
-
-inside : (c : After-from-need) → c.loop-j.j < length (ns c)
-unfolding ns
-inside c = omega (arith, length_needs_at c.args.sheet.now c.args.found.now.needs c.args.found.now.count, c.loop-j-test.true)
-
-pub loop-j-init : goal.loop-j-init
-loop-j-init c = ordered_none _ _
-
-pub loop-j-preserved : goal.loop-j-preserved
-unfolding ns
-loop-j-preserved c =
-    ordered_more _ _ _ _ _ c.loop-j.invariant (here (goal.at.loop-j-preserved c).After-from-need) c.if-need-least.false c.if-need-found.false
-
-pub returns-then-need-least : goal.returns-then-need-least
-unfolding ns
-returns-then-need-least c =
-    let turn = (goal.at.returns-then-need-least c).After-from-need in (
-      λ e. absurd (false≢true e),
-      λ all. absurd (elim c.then-need-least.branch [
-        | then-need-least-via-then-need-least w ↦ not_ascending _ _ _ _ c.loop-j.invariant (inside turn) (omega (arith, here turn, w.if-need-least.true)) all
-        | then-need-least-via-else-need-least+then-need-found w ↦ own_number _ _ _ (inside turn) (here turn ∙ w.if-need-found.true) all
-      ]),
-    )
-
-pub returns : goal.returns
-returns c =
-    let long = length_needs_at c.args.sheet.now c.args.found.now.needs c.args.found.now.count in
-    (λ e. ordered_all _ _ _ _ c.loop-j.invariant (omega (arith, long, c.loop-j-test.false)), λ all. refl)
+pub returns-else-all : goal.returns-else-all
+returns-else-all c =
+    let bs = c.args.sheet.now in
+    let r = c.args.found.now in
+    let above : ℕ → Type 0 = Above bs r.needs in
+    let below : ℕ → Type 0 = NotAbove bs r.needs in
+    let down = each_of_range above below 1 (r.count - 1) false
+    (cases_from_all _ _ _ above below c.if-all.ensures.ran (YieldsList-from_range 1 r.count _ refl refl) (λ x q k. search (rules, tests)) (λ x q k. search (rules, tests))) in
+    (λ e. absurd (false≢true (sym c.if-all.false ∙ e)), λ o. absurd (not_ascending bs r.needs r.count r.number down.0 down.1 down.2 o))

@@ -1,8 +1,9 @@
-use Rattle.std.proofs.Common.{◌+◌, Some, Ok, refl}
+use Rattle.std.proofs.Common.{◌+◌, Some, Ok, refl, arith}
 use Rattle.std.proofs.lemmas.Bool.{false≢true}
+use Rattle.std.proofs.lemmas.Grind.{common_steps}
 use Rattle.sheet.specs.Places.{Cursor}
 use Rattle.sheet.proofs.Turns.{in_turn}
-use Rattle.sheet.proofs.Questions.{Laid, laid_is, high_bits, need_gap, cut_short, amount_range, need_order, handed_out}
+use Rattle.sheet.proofs.Questions.{Laid, laid_is, cut_short, amount_range, need_order, handed_out}
 use Rattle.sheet.proofs.records.record_at.Goals as goal
 use Rattle.sheet.proofs.records.record_at.Goals.{After-layout-found}
 
@@ -10,13 +11,7 @@ use Rattle.sheet.proofs.records.record_at.Goals.{After-layout-found}
 found : (c : After-layout-found) → Laid c.args.sheet.now c.args.number c.args.at c.layout-found.result
 found c =
     laid_is _ _ _ _ _ _ (λ k. (c.type_inv.sheet k).fits) c.requires c.if-number-ge-MOST_ENTRIES.false refl c.if-map-ge64.false
-    c.in-Some.ensures.1 c.in-Some.ensures.0 c.layout-found.ensures
-
-pub returns-then-map-ge64 : goal.returns-then-map-ge64
-returns-then-map-ge64 c = high_bits c.args.sheet.now _ c.args.at c.if-number-ge-MOST_ENTRIES.false c.if-map-ge64.true
-
-pub returns-in_default : goal.returns-in_default
-returns-in_default c = need_gap c.args.sheet.now _ c.args.at c.if-number-ge-MOST_ENTRIES.false c.if-map-ge64.false c.in_default.ensures
+    (grind (arith, common_steps)) (grind (arith, common_steps)) c.layout-found.ensures
 
 pub returns-then-found-sheet : goal.returns-then-found-sheet
 returns-then-found-sheet c =

@@ -1,11 +1,11 @@
-use Rattle.std.proofs.Common.{◌≡◌, ◌+◌, [], length, Some, None, Ok, Err, sym, refl, ap, ◌∙◌, subst, true-eqb, false-eqb}
+use Rattle.std.proofs.Common.{Some, Ok, Err, refl, ap, ◌∙◌, true-eqb}
 use Rattle.std.proofs.lemmas.List.{nil_from_length}
 use Rattle.std.proofs.lemmas.Result.{err_from_is_err_and}
 use Rattle.sheet.specs.declared.refusal.SheetRefusal.TheVariants.{Empty}
 use Rattle.sheet.specs.Places.{HandedOut}
 use Rattle.sheet.specs.Readers.{cursor}
 use Rattle.sheet.proofs.Turns.{handed_at, turn_falls}
-use Rattle.sheet.proofs.Passes.{Counting, counting_none, counting_more, counting_done, fault_answers, settled}
+use Rattle.sheet.proofs.Passes.{counting_none, counting_more, fault_answers, settled}
 use Rattle.sheet.proofs.whole.count.Goals as goal
 use Rattle.sheet.proofs.whole.count.Goals.{In-Some}
 
@@ -20,7 +20,7 @@ returns-then-is_empty c =
 
 pub loop-found-init : goal.loop-found-init
 loop-found-init c =
-    (c.new-reader.ensures.sheet, subst (λ from. Counting c.args.sheet.now from 0 0) (sym c.new-reader.ensures.cursor) (counting_none c.args.sheet.now))
+    (c.new-reader.ensures.sheet, counting_none c.args.sheet.now _ _ c.new-reader.ensures.cursor c.default-counts.ensures.0 c.default-counts.ensures.1)
 
 pub loop-found-smaller : goal.loop-found-smaller
 loop-found-smaller c = turn_falls _ _ _ _ (turn (goal.at.loop-found-smaller c).In-Some)
@@ -28,8 +28,7 @@ loop-found-smaller c = turn_falls _ _ _ _ (turn (goal.at.loop-found-smaller c).I
 pub loop-found-preserved : goal.loop-found-preserved
 loop-found-preserved c = (
   c.in_ok-found.ensures.sheet ∙ c.loop-found.invariant.0,
-  subst (λ n. Counting c.args.sheet.now (cursor c.next.new.self) (c.loop-found.entries + 1) (c.loop-found.needs + n)) (sym c.from-needs.ensures)
-      (counting_more _ _ _ _ _ _ c.loop-found.invariant.1 (turn (goal.at.loop-found-preserved c).In-Some)),
+  rw c.from.ensures (counting_more _ _ _ _ _ c.loop-found.invariant.1 (turn (goal.at.loop-found-preserved c).In-Some)),
 )
 
 pub returns-in_err-found : goal.returns-in_err-found
@@ -37,9 +36,3 @@ returns-in_err-found c =
     let (x, is, same) = err_from_is_err_and c.from_residual.result c.from_residual.ensures.1 in
     let told = handed_at c.args.sheet.now _ (cursor c.loop-found.reader) (cursor c.next.new.self) _ (Err c.in_err-found.field-0.0) c.loop-found.invariant.0 refl c.in_err-found.ensures.handed in
     rw (is, same) (fault_answers _ _ _ _ _ c.loop-found.invariant.1.progress told)
-
-pub returns : goal.returns
-returns c =
-    let end = handed_at c.args.sheet.now _ (cursor c.loop-found.reader) (cursor c.next.new.self) _ (Ok None) c.loop-found.invariant.0 (ap Ok c.in_default.is) c.in_ok-found.ensures.handed in
-    let some : c.args.sheet.now ≡ [] → ⊥ = λ none. false-eqb _ 0 c.if-is_empty.ensures (ap length none) in
-    counting_done _ _ _ _ c.loop-found.invariant.1 some end.0
