@@ -22,7 +22,8 @@ impl From<SheetRefusal> for PlanRefusal {
 }
 
 impl PlanRefusal {
-    // The number of the refusal, and the record that it is about by its number and first byte.
+    // The number of the refusal, and the record that it is about by its number and first byte: a rule of the project has a method
+    // answer these.
     pub fn told(self) -> Told
         ensures { result ≡ told_of self }
     {

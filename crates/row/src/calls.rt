@@ -57,6 +57,7 @@ impl<'a> Network for Row<'a> {
     }
 
     fn arc_at(&self, node: usize, place: usize) -> Result<Option<usize>, NetworkRefusal> {
+        // no `get`: what is asked for here is a number, and no cell
         let count = self.node_count();
         if node >= count {
             return Err(NetworkRefusal::NoNode);

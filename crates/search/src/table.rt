@@ -67,7 +67,7 @@ impl<'a> Table<'a> {
         self.work[node].tree = tree;
     }
 
-    // Hangs a node from another parent.
+    // Hangs a node from another parent. The field is all that it does not share with `set_tree`.
     pub(crate) fn set_parent(&mut self, node: usize, parent: Parent)
         requires { node < (forest_of self.old).size }
         ensures { forest_of self.new ≡ with_parent (forest_of self.old) node parent }

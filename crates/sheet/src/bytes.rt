@@ -19,7 +19,7 @@ pub(crate) fn amount_at(sheet: &[u8], at: usize) -> u32
     u32::from_be_bytes(array::from_fn(|k| byte_at(sheet, at, k)))
 }
 
-// Need number `j` of those that begin at `at`.
+// Need number `j` of those that begin at `at`. It and an amount are a line each, and which number `from_be_bytes` makes is theirs.
 #[tactic(auto, unfolding(crate::specs::Places::number_at))]
 pub(crate) fn need_at(sheet: &[u8], at: usize, j: u8) -> u16
     ensures { result ≡ number_at sheet.now (at + 2 * j) 2 }
