@@ -20,7 +20,6 @@ impl<'a> Held<'a> {
     pub(crate) fn release(self) -> &'a mut [Record]
         ensures { result.now ≡ self.entry.table.now }
     {
-        let table = self.table;
-        table
+        self.table
     }
 }

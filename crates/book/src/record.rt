@@ -3,7 +3,8 @@ ghost use Rattle.std.specs.Prelude.{◌≡◌, ◌<◌, ◌≤◌, take};
 ghost use Rattle.book.specs.Records.{as_entry, as_arc, needing, with_arc_more};
 ghost use Rattle.book.specs.Refusals.{among};
 
-// A record serves an entry or an arc of a need, and its other fields then mean nothing.
+// A record serves an entry or an arc of a need, and its other fields then mean nothing. No enum: once sealed, each record also holds a
+// place of the index.
 #[derive(Clone, Copy, PartialEq, Eq, Debug, Default)]
 pub struct Record {
     // of an entry: what it earns and what it costs, and once sealed what is left of them as residuals

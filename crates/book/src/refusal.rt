@@ -3,7 +3,7 @@ ghost use Rattle.std.specs.Prelude.{◌≡◌, OnOk};
 ghost use Rattle.std.specs.Result.{result_err};
 ghost use Rattle.book.specs.Refusals.{enter_question, enter_refusal, Enters, need_question};
 
-// The largest amount of an entry.
+// The largest amount of an entry. It and the most entries are those of a sheet, on whose crate the book does not stand.
 const MOST_AMOUNT: u32 = 1_000_000;
 
 // The most entries that a book may have.
@@ -39,7 +39,7 @@ impl EnterRefusal {
             Err(EnterRefusal::LargeCost)
         } else if entries >= MOST_ENTRIES {
             Err(EnterRefusal::ManyEntries)
-        } else if unused < 1 {
+        } else if unused == 0 {
             Err(EnterRefusal::NoRecord)
         } else {
             Ok(())

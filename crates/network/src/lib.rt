@@ -33,7 +33,7 @@ pub trait Network {
     fn arc_at(&self, node: usize, place: usize) -> Result<Option<usize>, NetworkRefusal>
         ensures { result ≡ place_answer (value self.now) node place };
 
-    // The arc's tail, its head and the code of its reverse.
+    // The arc's tail, its head and the code of its reverse: three numbers that a rule of the project has told together.
     fn arc_ends(&self, arc: usize) -> Result<(usize, usize, usize), NetworkRefusal>
         ensures { result ≡ ends_answer (value self.now) arc };
 

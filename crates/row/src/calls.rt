@@ -36,9 +36,10 @@ impl<'a> Row<'a> {
         ensures { result ≡ at_arc (λ _. Ok (owner arc, way_of arc)) ((row_value self.now).graph.ends arc) }
     {
         let cell = arc / 2;
-        (cell + 1 < self.node_count())
-            .then_some((cell, Way::of(arc)))
-            .ok_or(NetworkRefusal::NoArc)
+        if cell + 1 >= self.node_count() {
+            return Err(NetworkRefusal::NoArc);
+        }
+        Ok((cell, Way::of(arc)))
     }
 }
 
@@ -57,13 +58,9 @@ impl<'a> Network for Row<'a> {
     }
 
     fn arc_at(&self, node: usize, place: usize) -> Result<Option<usize>, NetworkRefusal> {
-        // no `get`: what is asked for here is a number, and no cell
-        let count = self.node_count();
-        if node >= count {
-            return Err(NetworkRefusal::NoNode);
-        }
+        self.cell(node)?;
         // the arc to the next cell comes first, then the one to the cell before, each where there is one
-        let next = (node + 1 < count).then_some(2 * node);
+        let next = (node + 1 < self.node_count()).then_some(2 * node);
         let before = node.checked_sub(1).map(|before| 2 * before + 1);
         Ok(next.into_iter().chain(before).nth(place))
     }

@@ -8,6 +8,7 @@ use super::bytes::{amount_at, need_at};
 use super::records::{Record, record_at};
 use super::refusal::SheetRefusal;
 
+// No `Iterator`: at a record that is refused it would hand out the same refusal for ever.
 #[derive(Clone, Copy, PartialEq, Eq, Debug)]
 pub struct Reader<'a> {
     sheet: &'a [u8],
@@ -75,6 +76,6 @@ impl<'a> Reader<'a> {
     pub fn need(&self, found: &Record, j: u8) -> Option<usize>
         ensures { result ≡ slice_get (entry_at (sheet_of self.now) found.now).needs j }
     {
-        (j < found.count).then_some(usize::from(need_at(self.sheet, found.needs, j)))
+        (j < found.count).then(|| usize::from(need_at(self.sheet, found.needs, j)))
     }
 }
