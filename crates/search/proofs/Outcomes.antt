@@ -1,7 +1,6 @@
 -- How a run ends: refused, paused or finished.
-use Rattle.std.proofs.Common.{◌≡◌, ℕ, ◌<◌, ◌≤◌, List, ◌++◌, length, take, drop, Some, None, ap, ◌∙◌, subst, ⊎_elim, arith}
+use Rattle.std.proofs.Common.{◌≡◌, ℕ, ◌≤◌, List, ◌++◌, length, take, drop, None, ap, ◌∙◌, subst, arith}
 use Rattle.std.proofs.lemmas.List.{length-append, length-drop, drop_at, get_or_append_left, take-append-drop}
-use Rattle.std.proofs.lemmas.Bool.{cases_lt}
 use Rattle.std.proofs.lemmas.Bool.Decides.{nat_tests}
 use Rattle.network.specs.declared.terminal.Terminal.TheVariants.{Source, Sink}
 use Rattle.network.specs.Nets.{Net, Lawful}
@@ -12,7 +11,6 @@ use Rattle.network.proofs.Duality.{finished, path_left}
 use Rattle.trees.specs.declared.work.Work.{Work}
 use Rattle.trees.specs.Forests.{Forest}
 use Rattle.trees.specs.Trees.{tree_nodes}
-use Rattle.search.specs.declared.refusal.RunRefusal.TheVariants.{FewRecords, FewMarks}
 use Rattle.search.specs.declared.report.Outcome.{Outcome}
 use Rattle.search.specs.declared.report.Outcome.TheVariants.{Finished, Paused}
 use Rattle.search.specs.declared.report.Report.{Report}
@@ -24,13 +22,7 @@ use Rattle.search.proofs.Promises.{marks_of}
 
 -- an accepted run has a record and a mark byte for each node
 pub enough : (nodes records marks : ℕ) → first_refusal nodes records marks ≡ None → (nodes ≤ records) × (nodes ≤ marks)
-enough nodes records marks none = ⊎_elim
-    (λ (few : records < nodes). absurd (let is : first_refusal nodes records marks ≡ Some FewRecords = grind (arith, nat_tests) in let z : ◌≡◌ {A = ℕ} 0 1 = cc in omega arith))
-    (λ (some : nodes ≤ records). ⊎_elim
-    (λ (few : marks < nodes). absurd (let is : first_refusal nodes records marks ≡ Some FewMarks = grind (arith, nat_tests) in let z : ◌≡◌ {A = ℕ} 0 1 = cc in omega arith))
-    (λ (more : nodes ≤ marks). (some, more))
-    (cases_lt marks nodes))
-    (cases_lt records nodes)
+enough nodes records marks none = (grind (arith, nat_tests), grind (arith, nat_tests))
 
 -- the first n elements replaced
 beyond : {A : Type 0} (n m : ℕ) (before part : List A) → m ≡ n → n ≤ length before → length part ≡ n → Beyond n before (part ++ drop m before)

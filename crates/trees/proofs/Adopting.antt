@@ -1,5 +1,5 @@
 -- An orphan and the parent it has found.
-use Rattle.std.proofs.Common.{◌≡◌, ℕ, true, Some, sym, refl, ap, ◌∙◌, subst}
+use Rattle.std.proofs.Common.{◌≡◌, ℕ, true, Some, refl, ap, ◌∙◌}
 use Rattle.network.specs.declared.terminal.Terminal.{Terminal}
 use Rattle.network.specs.Nets.{Net, Lawful}
 use Rattle.trees.specs.declared.lane.Lane.TheVariants.{Orphans}
@@ -20,7 +20,7 @@ pub record PickedOrphan (v : Net) (f : Forest) (t : Terminal) (u : ℕ) : Type 0
 
 -- it is one while only stages change
 pub orphan_stays : (v : Net) (f f' : Forest) (t : Terminal) (u : ℕ) → f' ≡ restaged f f'.stage → PickedOrphan v f t u → PickedOrphan v f' t u
-orphan_stays v f f' t u is o = subst (λ (x : Forest). PickedOrphan v x t u) (sym is) (record {
+orphan_stays v f f' t u is o = rw is (record {
   trees = restage_trees v (with_queued f Orphans u true) f'.stage o.trees;
   mine = o.mine;
   alone = o.alone;
@@ -39,7 +39,7 @@ adopted_survey v f t u a stage o (e, b, anchored) s =
 
 -- an offer stands while only stages change
 pub offer_stands : (v : Net) (f f' : Forest) (t : Terminal) (u a : ℕ) → f' ≡ restaged f f'.stage → Offered v f t u a → Offered v f' t u a
-offer_stands v f f' t u a is (e, b, anchored) = subst (λ (x : Forest). Offered v x t u a) (sym is) (e, branch_in v f (restaged f f'.stage) t u a e b b.same_tree, anchored)
+offer_stands v f f' t u a is (e, b, anchored) = rw is (e, branch_in v f (restaged f f'.stage) t u a e b b.same_tree, anchored)
 
 -- only stages have changed, and once more
 pub restaged_on : (f g h : Forest) → g ≡ restaged f g.stage → h ≡ restaged g h.stage → h ≡ restaged f h.stage

@@ -16,7 +16,6 @@ use Rattle.trees.specs.Forests.{Forest}
 use Rattle.trees.specs.Rings.{Empty}
 use Rattle.trees.specs.Trees.{Climb, Trees, Bridge, Onward, AllOnward}
 use Rattle.trees.specs.Trees.Climb.{here, up}
-use Rattle.trees.proofs.Points.{source_sink, one_tree}
 use Rattle.trees.proofs.Climbs.{all_anchored, parent_arc, climb_stays, Height, one_height}
 use Rattle.trees.proofs.Heights.{Within, nodes_within, nodes_distinct, nodes_up}
 
@@ -110,7 +109,7 @@ bridge_leads v f a e first last xs ys l h b c top d end =
     let way = sink_leads v f e.head last ys l h head b.head d end in
     let low = subst (AllByRecursion (Within v f Sink (length ys))) (up_passed g e.head ys) (nodes_within v f Sink e.head last ys l h head b.head d end) in
     let nodes = passed g e.head ys in
-    let apart : (x : ℕ) → Within v f Sink (length ys) x → f.tree x ≡ Some Source → ⊥ = λ x s t. source_sink (one_tree (f.tree x) Source Sink t s.tree) in
+    let apart : (x : ℕ) → Within v f Sink (length ys) x → f.tree x ≡ Some Source → ⊥ = λ x s t. cc in
     let new : (k : ℕ) → slice_get nodes k ≡ Some e.tail → ⊥ = λ k at. apart e.tail (all_nth (Within v f Sink (length ys)) nodes k e.tail low at) b.tail in
     let far : AllByRecursion (Beyond v f (length xs)) nodes = All-weaker (Within v f Sink (length ys)) (Beyond v f (length xs)) (λ x s t. absurd (apart x s t)) nodes low in
     let mine : Beyond v f (length xs) e.tail = λ s j its. omega (arith, one_height g f.parent Source e.tail j (length xs) its (first, xs, c, top, refl)) in

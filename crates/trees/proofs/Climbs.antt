@@ -12,7 +12,6 @@ use Rattle.trees.specs.Forests.{Forest}
 use Rattle.trees.specs.Rings.{Empty}
 use Rattle.trees.specs.Trees.{Climb, Anchored, Branch, Trees, There}
 use Rattle.trees.specs.Trees.Climb.{here, up}
-use Rattle.trees.proofs.Points.{along_root}
 
 -- a node's parent arc, whichever way its ends were told
 pub branch_at : (v : Net) (f : Forest) (t : Terminal) (u a : ℕ) (e : Ends) → (d : Ends) × Branch v f t u a d → v.graph.ends a ≡ Some e → Branch v f t u a e
@@ -43,8 +42,8 @@ climb_push g parent t u w arcs a e c hung is = climb_append g parent t u w (near
 -- parents are a function, so the climbs from a node to the terminal have the same arcs
 pub one_climb : (g : Graph) (parent : ℕ → Parent) (t : Terminal) (u w z : ℕ) (xs ys : List ℕ) → Climb g parent t u w xs → parent w ≡ Root → Climb g parent t u z ys → parent z ≡ Root → xs ≡ ys
 one_climb g parent t u w z xs ys here top here end = refl
-one_climb g parent t u w z xs ys here top (up a e hung is c) end = along_root (parent u) a hung top
-one_climb g parent t u w z xs ys (up a e hung is c) top here end = along_root (parent u) a hung end
+one_climb g parent t u w z xs ys here top (up a e hung is c) end = cc
+one_climb g parent t u w z xs ys (up a e hung is c) top here end = cc
 one_climb g parent t u w z xs ys (up {arcs = more} a e hung is c) top (up {arcs = rest} b d hangs at c') end =
     let arcs : a ≡ b = cc in
     let ends = one_ends g a e d is (ap g.ends arcs ∙ at) in

@@ -1,5 +1,5 @@
 -- Over a bridge: from the climbs at its two ends to the path that is written.
-use Rattle.std.proofs.Common.{◌≡◌, ℕ, ◌+◌, ◌<◌, ◌≤◌, List, [], ◌∷◌, ◌++◌, map, length, Some, sym, refl, ap, ◌∙◌, subst, arith}
+use Rattle.std.proofs.Common.{◌≡◌, ℕ, ◌+◌, ◌<◌, ◌≤◌, List, [], ◌∷◌, ◌++◌, map, length, Some, refl, ap, ◌∙◌, arith}
 use Rattle.std.specs.List.{AllByRecursion}
 use Rattle.network.specs.declared.terminal.Terminal.{Terminal}
 use Rattle.network.specs.declared.terminal.Terminal.TheVariants.{Source, Sink}
@@ -15,7 +15,6 @@ use Rattle.trees.specs.Trees.{Climb, Bridge, There}
 use Rattle.trees.specs.Trees.Climb.{here}
 use Rattle.trees.specs.Searches.{Bridges}
 use Rattle.trees.specs.Climbs.{Settled, ClimbsFit, Climbed, ClimbWritten, DescentWritten, Passable}
-use Rattle.trees.proofs.Points.{source_sink}
 use Rattle.trees.proofs.Heights.{climbs_short}
 use Rattle.trees.proofs.Bridges.{over, bridge_leads, bridged}
 
@@ -31,22 +30,22 @@ near_tree v f Source a e b = b.tail
 near_tree v f Sink a e b = b.head
 
 pub end_there : (v : Net) (f : Forest) (t : Terminal) (a u : ℕ) → Lawful v → Bridges v f a → EndOf v t a u → u < v.graph.nodes
-end_there v f t a u l (e, b) from = subst (λ x. x < v.graph.nodes) (sym (end_is v f t a u e b from)) (near_there v.graph t a e l.graph b.ends)
+end_there v f t a u l (e, b) from = rw (end_is v f t a u e b from) (near_there v.graph t a e l.graph b.ends)
 
 pub end_tree : (v : Net) (f : Forest) (t : Terminal) (a u : ℕ) → Bridges v f a → EndOf v t a u → f.tree u ≡ Some t
-end_tree v f t a u (e, b) from = subst (λ x. f.tree x ≡ Some t) (sym (end_is v f t a u e b from)) (near_tree v f t a e b)
+end_tree v f t a u (e, b) from = rw (end_is v f t a u e b from) (near_tree v f t a e b)
 
 pub some_node : (v : Net) (f : Forest) (a : ℕ) → Lawful v → Bridges v f a → 0 < v.graph.nodes
 some_node v f a l (e, b) = omega (arith, l.graph.tail_there a e b.ends)
 
 -- the climb from an end, as one from that end of the bridge
 from_end : (v : Net) (f : Forest) (t : Terminal) (a u w : ℕ) (e : Ends) (arcs : List ℕ) → Bridge v f a e → EndOf v t a u → Climb v.graph f.parent t u w arcs → Climb v.graph f.parent t (near t e) w arcs
-from_end v f t a u w e arcs b from c = subst (λ x. Climb v.graph f.parent t x w arcs) (end_is v f t a u e b from) c
+from_end v f t a u w e arcs b from c = rw (← end_is v f t a u e b from) c
 
 -- the climbs from both ends are short together
 pub ends_short : (v : Net) (f : Forest) (a tail head w z : ℕ) (xs ys : List ℕ) → Lawful v → Settled v f → Bridges v f a → EndOf v Source a tail → EndOf v Sink a head → Climb v.graph f.parent Source tail w xs → Climb v.graph f.parent Sink head z ys → length xs + length ys + 2 ≤ v.graph.nodes
 ends_short v f a tail head w z xs ys l s b from to c d =
-    climbs_short v f Source Sink tail head w z xs ys l s.trees s.no_orphans source_sink (end_there v f Source a tail l b from) (end_tree v f Source a tail b from) (end_there v f Sink a head l b to) (end_tree v f Sink a head b to) c d
+    climbs_short v f Source Sink tail head w z xs ys l s.trees s.no_orphans (λ same. cc) (end_there v f Source a tail l b from) (end_tree v f Source a tail b from) (end_there v f Sink a head l b to) (end_tree v f Sink a head b to) c d
 
 -- a climb from the tail has room, and room is left for the bridge
 pub tail_short : (v : Net) (f : Forest) (a tail w : ℕ) (xs : List ℕ) → Lawful v → Settled v f → Bridges v f a → EndOf v Source a tail → Climb v.graph f.parent Source tail w xs → length xs + 2 ≤ v.graph.nodes
@@ -91,7 +90,7 @@ way_there v f first last arcs l way =
     let h = way.augmenting x least in
     record {
       first_there = h.there;
-      last_there = subst (λ w. w < g.nodes) way.to (last_there g first arcs l.graph h.there h.chain);
+      last_there = rw (← way.to) (last_there g first arcs l.graph h.there h.chain);
       arcs_there = chain_there g first arcs h.chain;
       short = omega (arith, few_words v (record { amount = x; first = first; arcs = arcs }) l h);
     }

@@ -13,14 +13,13 @@ use Rattle.trees.specs.Forests.{Forest}
 use Rattle.trees.specs.Rings.{Empty}
 use Rattle.trees.specs.Trees.{Climb, Trees, is_of, tree_nodes}
 use Rattle.trees.specs.Trees.Climb.{here, up}
-use Rattle.trees.proofs.Points.{one_tree, false_true, source_sink}
 use Rattle.trees.proofs.Climbs.{parent_arc, climb_stays, not_lost}
 
 pub is_of_some : (o : Option Terminal) (t : Terminal) → is_of o t ≡ true → o ≡ Some t
-is_of_some None t is = false_true is
+is_of_some None t is = cc
 is_of_some (Some Source) Source is = refl
-is_of_some (Some Source) Sink is = false_true is
-is_of_some (Some Sink) Source is = false_true is
+is_of_some (Some Source) Sink is = cc
+is_of_some (Some Sink) Source is = cc
 is_of_some (Some Sink) Sink is = refl
 
 pub is_of_true : (t : Terminal) → is_of (Some t) t ≡ true
@@ -47,8 +46,7 @@ separate v f l h asleep adopted = record {
         top;
     complete = λ u r. held t u r;
   };
-  apart = λ u there first second.
-      source_sink (one_tree (f.tree u) Source Sink (is_of_some (f.tree u) Source first) (is_of_some (f.tree u) Sink second));
+  apart = λ u there first second. cc (is_of_some (f.tree u) Source first, is_of_some (f.tree u) Sink second);
 }
   where
     inside : (t : Terminal) (u : ℕ) → Reached v t u → f.tree u ≡ Some t

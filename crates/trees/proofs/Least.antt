@@ -11,8 +11,8 @@ use Rattle.trees.specs.Climbs.{residuals}
 
 min_either : (P : ℕ → Type 0) (x y : ℕ) → P x → P y → P (min x y)
 min_either P x y p q = ⊎_elim
-    (λ (less : x < y). let is : x ≡ min x y = omega arith in subst P is p)
-    (λ (more : y ≤ x). let is : y ≡ min x y = omega arith in subst P is q)
+    (λ (less : x < y). subst P (omega arith) p)
+    (λ (more : y ≤ x). subst P (omega arith) q)
     (cases_lt x y)
 
 smallest_two : (x y : ℕ) → Smallest (min x y) (x ∷ y ∷ [])

@@ -1,5 +1,5 @@
 -- The climb that remembers all nodes on its way: what holds at each of them.
-use Rattle.std.proofs.Common.{◌≡◌, ℕ, ◌<◌, Some, sym, ap, subst}
+use Rattle.std.proofs.Common.{◌≡◌, ℕ, ◌<◌, Some, ap}
 use Rattle.network.specs.declared.terminal.Terminal.{Terminal}
 use Rattle.network.specs.Nets.{Net, Lawful, ends_of}
 use Rattle.network.specs.Sides.{near}
@@ -23,7 +23,7 @@ pub record Remembering (v : Net) (t : Terminal) (stage : ℕ) (f₀ f : Forest) 
 
 pub remembering_marked : (v : Net) (t : Terminal) (stage : ℕ) (f₀ f f₁ : Forest) (u : ℕ) → Remembering v t stage f₀ f u → f₁ ≡ with_stage f u stage → Noted v stage f₀ f₁
 remembering_marked v t stage f₀ f f₁ u r is =
-    subst (Noted v stage f₀) (sym is) (record {
+    rw is (record {
       survey = survey_stage v f stage t u r.noted.survey r.mine r.anchored;
       only = ap (λ (x : Forest). with_stage x u stage) r.noted.only;
     })
@@ -34,6 +34,6 @@ remembering_on v t stage f₀ f f₁ u a w l r is at to =
     record {
       noted = remembering_marked v t stage f₀ f f₁ u r is;
       there = step.there;
-      mine = subst (λ (x : Forest). x.tree w ≡ Some t) (sym is) step.mine;
-      anchored = subst (λ (x : Forest). Anchored v.graph x.parent t w) (sym is) (step.above r.anchored);
+      mine = rw is step.mine;
+      anchored = rw is (step.above r.anchored);
     }
