@@ -1,4 +1,4 @@
-use Rattle.std.proofs.Common.{◌≤◌, length, sym, subst, arith, rules}
+use Rattle.std.proofs.Common.{◌≤◌, length, sym, subst, arith}
 use Rattle.std.specs.List.{AllByRecursion}
 use Rattle.network.specs.Paths.{Smallest}
 use Rattle.trees.specs.Trees.{There}
@@ -8,28 +8,6 @@ use Rattle.trees.proofs.Crossing.{some_node, way_there}
 use Rattle.search.proofs.Climbing.{traced}
 use Rattle.search.specs.Tables.{forest_of}
 use Rattle.search.proofs.tracing.trace.Goals as goal
-
-pub slice_bounds-trace_arcs-count : goal.slice_bounds-trace_arcs-count
-slice_bounds-trace_arcs-count g c =
-    let some = some_node _ _ _ (g.N.Network.lawful c.args.net.now) c.requires.bridge in
-    search rules
-
-pub slice_bounds-trace_arcs-start : goal.slice_bounds-trace_arcs-start
-slice_bounds-trace_arcs-start g c =
-    let some = some_node _ _ _ (g.N.Network.lawful c.args.net.now) c.requires.bridge in
-    search rules
-
-pub overflow_add-count : goal.overflow_add-count
-overflow_add-count g c =
-    let (arcs, count, way, written) = c.trace_arcs-count.ensures in
-    let there = way_there _ _ _ _ _ (g.N.Network.lawful c.args.net.now) way in
-    search rules
-
-pub slice_bounds-smallest-end : goal.slice_bounds-smallest-end
-slice_bounds-smallest-end g c =
-    let (arcs, count, way, written) = c.trace_arcs-count.ensures in
-    let there = way_there _ _ _ _ _ (g.N.Network.lawful c.args.net.now) way in
-    search rules
 
 pub smallest-amount-requires : goal.smallest-amount-requires
 smallest-amount-requires g c =
@@ -44,11 +22,6 @@ smallest-amount-requires g c =
       last = there.last_there;
       arcs = subst (AllByRecursion (There v.graph)) (sym (read_after_three c.args.words.now c.trace_arcs-count.new.arcs arcs c.trace_arcs-count.result.count room count written)) there.arcs_there;
     }
-
-pub bounds-words-2 : goal.bounds-words-2
-bounds-words-2 g c =
-    let some = some_node _ _ _ (g.N.Network.lawful c.args.net.now) c.requires.bridge in
-    search rules
 
 pub returns : goal.returns
 returns g c =

@@ -4,7 +4,7 @@ use Rattle.network.specs.declared.terminal.Terminal.TheVariants.{Source, Sink}
 use Rattle.trees.specs.Climbs.{Written}
 use Rattle.trees.proofs.Bridges.{over, over_length}
 use Rattle.trees.proofs.Writing.{written_push, written_part}
-use Rattle.trees.proofs.Crossing.{end_there, end_tree, tail_short, ascent_fits, crossing_short, crossed}
+use Rattle.trees.proofs.Crossing.{end_there, end_tree, tail_short, ascent_fits, crossed}
 use Rattle.search.specs.Tables.{forest_of}
 use Rattle.search.proofs.tracing.trace_arcs.Goals as goal
 
@@ -35,11 +35,6 @@ climb-above-requires g c =
       tree = end_tree v f Sink c.args.bridge head c.requires.bridge is;
       room = ascent_fits v f c.args.bridge c.near_end-tail.result head _ c.args.arcs.now c.descend-below.new.arcs c.descend-below.result l c.requires.trees c.requires.bridge c.near_end-tail.ensures is c.descend-below.ensures.written (search rules);
     }
-
-pub overflow_add-result-2 : goal.overflow_add-result-2
-overflow_add-result-2 g c =
-    let short = crossing_short _ _ _ _ _ _ _ _ _ _ _ (g.N.Network.lawful c.args.net.now) c.requires.trees c.requires.bridge c.near_end-tail.ensures c.near_end-head.ensures c.descend-below.ensures.written c.climb-above.ensures in
-    search rules
 
 pub returns : goal.returns
 returns g c =

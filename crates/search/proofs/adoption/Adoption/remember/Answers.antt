@@ -1,5 +1,3 @@
-use Rattle.std.proofs.Common.{sym, ap, ◌∙◌}
-use Rattle.trees.specs.declared.work.Work.{Work}
 use Rattle.trees.proofs.Climbs.{branch_there}
 use Rattle.trees.proofs.Remembering.{remembering_marked, remembering_on}
 use Rattle.search.specs.Tables.{forest_of}
@@ -11,7 +9,7 @@ near_end-at-requires g c =
     let t = c.args.self.now.terminal in
     let u = c.loop.at in
     let a = c.in-Along.arc in
-    branch_there (g.N.Network.value c.args.self.now.net.now) (forest_of c.loop.table) t u a (r.noted.survey.parents t u a r.there r.mine (sym (ap (λ (w : Work). w.parent) c.work-record.ensures) ∙ c.in-Along.is))
+    branch_there (g.N.Network.value c.args.self.now.net.now) (forest_of c.loop.table) t u a (r.noted.survey.parents t u a r.there r.mine (cc))
 
 pub returns-in_default : goal.returns-in_default
 returns-in_default g c =
@@ -19,4 +17,4 @@ returns-in_default g c =
     record { survey = noted.survey; trees = noted.only }
 
 pub loop-preserved : goal.loop-preserved
-loop-preserved g c = remembering_on (g.N.Network.value c.args.self.now.net.now) c.args.self.now.terminal c.args.self.now.stage (forest_of c.args.table.now) (forest_of c.loop.table) (forest_of c.set_stage.new.self) c.loop.at c.in-Along.arc c.near_end-at.result (g.N.Network.lawful c.args.self.now.net.now) c.loop.invariant c.set_stage.ensures (sym (ap (λ (w : Work). w.parent) c.work-record.ensures) ∙ c.in-Along.is) c.near_end-at.ensures
+loop-preserved g c = remembering_on (g.N.Network.value c.args.self.now.net.now) c.args.self.now.terminal c.args.self.now.stage (forest_of c.args.table.now) (forest_of c.loop.table) (forest_of c.set_stage.new.self) c.loop.at c.in-Along.arc c.near_end-at.result (g.N.Network.lawful c.args.self.now.net.now) c.loop.invariant c.set_stage.ensures (cc) c.near_end-at.ensures
