@@ -1,24 +1,20 @@
 -- A traced path, read back from its words.
-use Rattle.std.proofs.Common.{◌≡◌, ℕ, ◌+◌, ◌-◌, ◌^◌, ◌≤◌, List, ◌++◌, length, take, drop, sym, ap, ◌∙◌, arith}
+use Rattle.std.proofs.Common.{◌≡◌, ℕ, ◌+◌, ◌-◌, ◌≤◌, List, ◌++◌, length, take, drop, sym, ap, ◌∙◌, arith}
 use borrow.Rule.Slice.PartMut.{put_mid}
 use Rattle.std.proofs.lemmas.List.{take_at, drop_at, drop-drop, length-take-le}
 use Rattle.network.specs.Nets.{Net, Lawful}
 use Rattle.network.specs.Paths.{Path, last_node, path_words}
 use Rattle.network.proofs.Pigeons.{few_words}
-use Rattle.network.proofs.Carrying.{path_lowers}
 use Rattle.trees.specs.Forests.{Forest}
 use Rattle.search.specs.declared.report.Log.{Log}
 use Rattle.search.specs.declared.tracing.Traced.{Traced}
-use Rattle.search.specs.Trails.{one_more, everything, Bounded}
+use Rattle.search.specs.Trails.{one_more}
 use Rattle.search.specs.Tracings.{Tracing}
 use Rattle.search.proofs.Behind.{put_behind}
 
 -- it has few words, and its amount is at most what can still be gained
 pub traced_few : (v : Net) (f : Forest) (before after : List ℕ) (r : Traced) (p : Path) → Lawful v → Tracing v f before after r p → 3 + r.arcs ≤ v.graph.nodes + 2
 traced_few v f before after r p l t = omega (arith, few_words v p l t.augmenting, ap (λ (x : Traced). x.arcs) t.told)
-
-pub traced_small : (v : Net) (f : Forest) (before after : List ℕ) (r : Traced) (p : Path) (log : Log) → Lawful v → Tracing v f before after r p → Bounded v log → log.gain + r.amount ≤ 2 ^ 52
-traced_small v f before after r p log l t b = omega (arith, b.small, (path_lowers v p l t.augmenting).costs everything, ap (λ (x : Traced). x.amount) t.told)
 
 pub log_traced : (v : Net) (f : Forest) (before after : List ℕ) (r : Traced) (p : Path) (log more : Log) → Tracing v f before after r p → more ≡ record { paths = log.paths + 1; gain = log.gain + r.amount; words = log.words + (3 + r.arcs) } → more ≡ one_more log p
 log_traced v f before after r p log more t is =

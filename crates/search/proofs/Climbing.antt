@@ -6,11 +6,11 @@ use Rattle.network.specs.Nets.{Net, ends_of}
 use Rattle.network.specs.Paths.{Smallest}
 use Rattle.network.specs.Sides.{near}
 use Rattle.network.proofs.Laws.{ends_are}
-use Rattle.trees.specs.declared.work.Parent.TheVariants.{Root, Along}
+use Rattle.trees.specs.declared.work.Parent.TheVariants.{Along}
 use Rattle.trees.specs.Forests.{Forest}
 use Rattle.trees.specs.Trees.{Climb}
 use Rattle.trees.specs.Trees.Climb.{here}
-use Rattle.trees.specs.Climbs.{Settled, ClimbsFit, Written, ClimbWritten, residuals, Passable}
+use Rattle.trees.specs.Climbs.{Settled, ClimbsFit, Written, residuals, Passable}
 use Rattle.trees.proofs.Climbs.{climb_push, branch_there}
 use Rattle.trees.proofs.Writing.{written_push}
 use Rattle.search.specs.declared.tracing.Hop.{Hop}
@@ -36,7 +36,7 @@ rising_none v f t u before = record { arcs = []; climb = here; count = refl; wri
 -- the climb with one step more
 next_climb : (v : Net) (f : Forest) (t : Terminal) (u at : ℕ) (arcs : List ℕ) (h : Hop) → Climb v.graph f.parent t u at arcs → Hops v.graph f.parent t at (Some h) → Climb v.graph f.parent t u h.node (arcs ++ h.arc ∷ [])
 next_climb v f t u at arcs h c (hung, e, is, above) =
-    subst (λ w. Climb v.graph f.parent t u w (arcs ++ h.arc ∷ [])) above (climb_push v.graph f.parent t u at arcs h.arc e c hung is)
+    rw (← above) (climb_push v.graph f.parent t u at arcs h.arc e c hung is)
 
 pub rising_fits : (v : Net) (f : Forest) (t : Terminal) (u : ℕ) (before after : List ℕ) (steps at : ℕ) (h : Hop) → ClimbsFit v.graph f.parent t u (length before) → Hops v.graph f.parent t at (Some h) → Rising v f t u before after steps at → steps < length before
 rising_fits v f t u before after steps at h fit hop r =
@@ -52,16 +52,13 @@ rising_more v f t u before after steps at h fit hop r =
       written = written_push before after r.arcs steps h.arc r.count room r.written;
     }
 
-pub rising_ends : (v : Net) (f : Forest) (t : Terminal) (u : ℕ) (before after : List ℕ) (steps at : ℕ) → f.parent at ≡ Root → Rising v f t u before after steps at → ClimbWritten v.graph f.parent t u before after (steps, at)
-rising_ends v f t u before after steps at top r = (r.arcs, record { count = r.count; climb = r.climb; top = top }, r.written)
-
 -- what is told of the path over a bridge
 pub traced : (v : Net) (f : Forest) (before after : List ℕ) (w : Way) (arcs : List ℕ) (x : ℕ) → w.count ≡ length arcs → Passable v f w.first w.last arcs → Smallest x (residuals v w.first arcs w.last) → Written before after (w.count ∷ x ∷ w.first ∷ arcs) → PathWritten v f before after (record { arcs = w.count; amount = x; first = w.first; last = w.last })
 traced v f before after w arcs x is way least written =
     let u = w.first in (
       record { amount = x; first = u; arcs = arcs },
       record {
-        augmenting = way.augmenting x (subst (λ z. Smallest x (residuals v u arcs z)) (sym way.to) least);
+        augmenting = way.augmenting x (rw way.to least);
         onward = way.onward;
         written = subst (λ k. Written before after (k ∷ x ∷ u ∷ arcs)) is written;
         told = ap (λ k. traced_as k w.last) is ∙ ap (traced_as (length arcs)) (sym way.to);

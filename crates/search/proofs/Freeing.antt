@@ -1,6 +1,6 @@
 -- The loop that lets go of the neighbours of an orphan, before it becomes free: what holds before each place.
-use Rattle.std.proofs.Common.{◌≡◌, ℕ, ◌+◌, ◌<◌, Bool, true, cond, ltb, Some, None, Option, sym, refl, ap, ◌∙◌, subst, arith}
-use Rattle.std.proofs.lemmas.Bool.{cond_both, ltb-false, both_ways}
+use Rattle.std.proofs.Common.{◌≡◌, ℕ, ◌+◌, ◌<◌, true, ltb, Some, None, Option, sym, refl, ap, ◌∙◌, arith}
+use Rattle.std.proofs.lemmas.Bool.{cond_both, ltb-false}
 use Rattle.std.proofs.lemmas.Bool.Decides.{nat_tests}
 use Rattle.std.specs.List.{slice_get}
 use Rattle.network.specs.declared.terminal.Terminal.{Terminal}
@@ -69,9 +69,6 @@ freeing_orphaned v t u k c a e before f l h hangs child is from =
           (waits, λ now. old (cut_along f.parent c (far t d) b now));
     }
 
-pub released_inside : (v : Net) (t : Terminal) (h : Neighbour) (f : Forest) → true ≡ is_of (f.tree h.node) t → disowned (woken v h f) h.node h.outward ≡ released v t h f
-released_inside v t h f is = ap (λ (b : Bool). cond b (disowned (woken v h f) h.node h.outward) f) is
-
 -- f where a neighbour waits, if something can be sent from it
 freeing_wakes : (v : Net) (t : Terminal) (u k : ℕ) (h : Neighbour) (before f : Forest) → Freeing v t u k before f → Freeing v t u k before (woken v h f)
 freeing_wakes v t u k h before f s = cond_both (ltb 0 (v.residual h.inward)) (with_queued f Waiting h.node true) f (Freeing v t u k before) (λ _. freeing_woken v t u k h.node before f s) (λ _. s)
@@ -107,9 +104,8 @@ freeing_more v t u k h before f l s b =
     let child : (woken v h f).tree w ≡ Some t = ap (λ (T : ℕ → Option Terminal). T w) (woken_tree v h f) ∙ is_of_some (f.tree w) t is in
     let g = disowned (woken v h f) w h.outward in
     on g (freeing_disowns v t u k h before (woken v h f) l (freeing_wakes v t u k h before f s) b child)
-    (subst (λ (x : ℕ). g.tree x ≡ Some t → (0 < v.residual b.ends.reverse → g.queued Waiting x ≡ true) × (g.parent x ≡ Along h.outward → ⊥)) (sym b.to)
-    (λ _. (λ some. disowned_waits (woken v h f) w h.outward w (woken_waits v h f (subst (λ (x : ℕ). 0 < v.residual x) b.back some)), disowned_here (woken v h f) w h.outward))))
-    (λ is. on f s (λ in_tree. absurd (both_ways (is_of (f.tree w) t) is (ap (λ (o : Option Terminal). is_of o t) (ap f.tree (sym b.to) ∙ in_tree) ∙ is_of_true t))))
+    (λ _. rw b.to (λ some. disowned_waits (woken v h f) w h.outward w (woken_waits v h f (rw (← b.back) some)), disowned_here (woken v h f) w h.outward)))
+    (λ is. on f s (λ in_tree. cc (b.to, is_of_true t)))
 
 pub freeing_after : (v : Net) (t : Terminal) (u k : ℕ) (h : Neighbour) (before f f' : Forest) → Lawful v → Freeing v t u k before f → Beside v.graph t u k h → f' ≡ released v t h f → Freeing v t u (k + 1) before f'
 freeing_after v t u k h before f f' l s b is = rw is (freeing_more v t u k h before f l s b)

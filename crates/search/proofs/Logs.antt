@@ -1,5 +1,5 @@
 -- One path more in the log.
-use Rattle.std.proofs.Common.{◌≡◌, ℕ, zero, suc, ◌+◌, ◌*◌, ◌^◌, ◌<◌, ◌≤◌, Bool, false, cond, List, [], ◌∷◌, ◌++◌, length, take, drop, Some, None, Option, sym, refl, ap, ◌∙◌, subst, arith}
+use Rattle.std.proofs.Common.{◌≡◌, ℕ, zero, suc, ◌+◌, ◌*◌, ◌^◌, ◌<◌, ◌≤◌, Bool, false, cond, List, [], ◌∷◌, ◌++◌, length, take, drop, Some, None, Option, sym, refl, ap, ◌∙◌, arith}
 use Rattle.std.proofs.lemmas.List.{append-nil, append_assoc, length-append, length-drop, take_at, drop_at, drop-drop}
 use Rattle.network.specs.declared.terminal.Terminal.TheVariants.{Sink}
 use Rattle.network.specs.Nets.{Ends, Graph, Net, Lawful}
@@ -47,7 +47,7 @@ logged_more v w x before trail after log more ps p h new =
     let gains = ap (λ (l : Log). l.gain) new.log in
     let words = ap (λ (l : Log). l.words) new.log in
     record {
-      successive = successive_push v ps p h.successive (subst (λ (y : Net). Augmenting y p) h.value new.augmenting);
+      successive = successive_push v ps p h.successive (rw (← h.value) new.augmenting);
       value = new.value ∙ ap (λ (y : Net). carried y p) h.value ∙ sym (carried_push v ps p);
       paths = omega (arith, paths, h.paths, length-append ps (p ∷ []));
       gain = omega (arith, gains, h.gain, gain_push ps p);
@@ -83,7 +83,7 @@ logged_bounded v w before after log ps l h =
 
 -- the graph stays, and so do the laws
 pub logged_lowered : (v w : Net) (before after : List ℕ) (log : Log) (ps : List Path) → Lawful v → Logged v w before after log ps → Lowered v log.gain w
-logged_lowered v w before after log ps l h = subst (λ (x : ℕ). Lowered v x w) (sym h.gain) (subst (Lowered v (gain ps)) (sym h.value) (paths_lower v ps l h.successive))
+logged_lowered v w before after log ps l h = rw (h.gain, h.value) (paths_lower v ps l h.successive)
 
 pub logged_nodes : (v w : Net) (before after : List ℕ) (log : Log) → Lawful v → SomeLogged v w before after log → w.graph.nodes ≡ v.graph.nodes
 logged_nodes v w before after log l (ps, h) = ap (λ (g : Graph). g.nodes) (logged_lowered v w before after log ps l h).graph

@@ -21,9 +21,7 @@ pub beside : (v : Net) (t : Terminal) (u k a tail head reverse : ℕ) → Lawful
 beside v t u k a tail head reverse l there at answer =
     let (e, is, from) = l.graph.own u k a there at in
     let same : (e.tail, e.head, e.reverse) ≡ (tail, head, reverse) = cc in
-    let heads = ap (λ (x : ℕ × ℕ × ℕ). x.1) same in
-    let backs = ap (λ (x : ℕ × ℕ × ℕ). x.2) same in
-    by t e is from heads backs
+    by t e is from (ap (λ (x : ℕ × ℕ × ℕ). x.1) same) (ap (λ (x : ℕ × ℕ × ℕ). x.2) same)
   where
     by : (t : Terminal) (e : Ends) → v.graph.ends a ≡ Some e → e.tail ≡ u → e.head ≡ head → e.reverse ≡ reverse → Beside v.graph t u k (told t a head reverse)
     by Source e is from heads backs = record { ends = e; out = is; back = backs; from = from; to = heads; place = at }

@@ -22,13 +22,13 @@ beside_inward v t u k h l b =
     )
 
 pub inward_there : (v : Net) (t : Terminal) (u : ℕ) (h : Neighbour) → Lawful v → Inward v.graph t u h → h.node < v.graph.nodes
-inward_there v t u h l (e, is, from, to) = subst (λ (x : ℕ). x < v.graph.nodes) from (near_there v.graph t h.inward e l.graph is)
+inward_there v t u h l (e, is, from, to) = rw (← from) (near_there v.graph t h.inward e l.graph is)
 
 pub offers : (v : Net) (f : Forest) (t : Terminal) (u : ℕ) (h : Neighbour) → Inward v.graph t u h → 0 < v.residual h.inward → f.tree h.node ≡ Some t → Anchored v.graph f.parent t h.node → Offered v f t u h.inward
 offers v f t u h (e, is, from, to) some mine anchored = (
   e,
-  record { ends = is; child = to; positive = some; same_tree = ap f.tree from ∙ mine },
-  subst (Anchored v.graph f.parent t) (sym from) anchored,
+  record { ends = is; child = to; positive = some; same_tree = rw from mine },
+  rw from anchored,
 )
 
 pub found_stands : (v : Net) (f f' : Forest) (t : Terminal) (u : ℕ) (r : Option Offer) → f' ≡ restaged f f'.stage → Found v f t u r → Found v f' t u r

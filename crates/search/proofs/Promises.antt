@@ -21,19 +21,17 @@ record Lower (v : Net) (g k : ℕ) (w : Net) : Type 0 where
   lowered : Lowered v g w
   few : k ≤ g
 
+lower_none : (v : Net) → Lawful v → Lower v 0 0 v
+lower_none v l = record { begun = l; lowered = record { graph = refl; lawful = l; costs = λ X. omega arith }; few = omega arith }
+
 -- one run
 run_lower : (v : Net) (before : Lent) (r : Result Report RunRefusal) (w : Net) (after : Lent) → Lawful v → Run v before r w after → Lower v (gained r) (counted r) w
-run_lower v before (Err e) w after l (_, same, _) = record {
-  begun = l;
-  lowered = subst (Lowered v 0) (sym same) (record { graph = refl; lawful = l; costs = λ X. omega arith });
-  few = omega arith;
-}
+run_lower v before (Err e) w after l (_, same, _) = rw same (lower_none v l)
 run_lower v before (Ok r) w after l (_, ps, ran) =
     let log = ran.logged in
-    let lower = paths_lower v ps l log.successive in
     record {
       begun = l;
-      lowered = subst (λ (x : ℕ). Lowered v x w) (sym log.gain) (subst (Lowered v _) (sym log.value) lower);
+      lowered = rw (log.gain, log.value) (paths_lower v ps l log.successive);
       few = omega (arith, few_paths v ps log.successive, log.paths, log.gain);
     }
 
@@ -50,11 +48,7 @@ lower_on v g k w h j x first second = record {
 }
 
 runs_lower : (v w : Net) (g k : ℕ) → Runs v w g k → Lower v g k w
-runs_lower v w g k (none l) = record {
-  begun = l;
-  lowered = record { graph = refl; lawful = l; costs = λ X. omega arith };
-  few = omega arith;
-}
+runs_lower v w g k (none l) = lower_none v l
 runs_lower v x _ _ (then {w = w} {g = g} {k = k} rest before r after run) =
     let so_far = runs_lower v w g k rest in
     lower_on v g k w (gained r) (counted r) x so_far (run_lower w before r x after so_far.lowered.lawful run)

@@ -1,5 +1,5 @@
 -- One turn of the run: growth, a path, adoption.
-use Rattle.std.proofs.Common.{◌≡◌, ℕ, ◌+◌, ◌<◌, ◌≤◌, Bool, List, [], ◌∷◌, ◌++◌, length, ap, ◌∙◌, subst, arith}
+use Rattle.std.proofs.Common.{◌≡◌, ℕ, ◌+◌, ◌<◌, ◌≤◌, List, [], ◌∷◌, ◌++◌, length, ap, ◌∙◌, arith}
 use Rattle.network.specs.Nets.{Graph, Net, Lawful}
 use Rattle.network.specs.Cuts.{cost}
 use Rattle.network.specs.Sides.{Separate}
@@ -28,7 +28,7 @@ pub record Turn (v₀ : Net) (trail₀ : List ℕ) (log₀ : Log) (v : Net) (f :
 
 -- growth makes no orphans
 pub grown_settled : (v : Net) (f f' : Forest) → Settled v f → Grows f f' → Trees v f' → Settled v f'
-grown_settled v f f' s g h = record { trees = h; no_orphans = λ u there. ap (λ (q : ℕ → Bool). q u) g.orphans ∙ s.no_orphans u (subst (λ (n : ℕ). u < n) g.size there) }
+grown_settled v f f' s g h = record { trees = h; no_orphans = λ u there. rw g.orphans (s.no_orphans u (omega arith)) }
 
 -- a bridge is a path that is left
 pub bridge_pauses : (v : Net) (f : Forest) (a : ℕ) (trail : List ℕ) (log : Log) → Lawful v → Settled v f → Bridges v f a → length trail < log.words + (v.graph.nodes + 2) → PauseDue v trail log

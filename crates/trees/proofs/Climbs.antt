@@ -1,6 +1,5 @@
 -- Climbs: they stay in their tree, go on where one another ends, and there is one from each node to the terminal at most.
-use Rattle.std.proofs.Common.{◌≡◌, ℕ, ◌<◌, List, [], ◌∷◌, ◌++◌, length, Some, refl, ap, ◌∙◌, subst, ⊎_elim, arith}
-use Rattle.std.proofs.lemmas.Bool.{both_ways}
+use Rattle.std.proofs.Common.{◌≡◌, ℕ, ◌<◌, List, [], ◌∷◌, ◌++◌, length, Some, refl, ap, subst, ⊎_elim, arith}
 use Rattle.network.specs.declared.terminal.Terminal.{Terminal}
 use Rattle.network.specs.Nets.{Ends, Graph, Net, Lawful}
 use Rattle.network.specs.Sides.{near}
@@ -45,14 +44,13 @@ one_climb g parent t u w z xs ys here top here end = refl
 one_climb g parent t u w z xs ys here top (up a e hung is c) end = cc
 one_climb g parent t u w z xs ys (up a e hung is c) top here end = cc
 one_climb g parent t u w z xs ys (up {arcs = more} a e hung is c) top (up {arcs = rest} b d hangs at c') end =
-    let arcs : a ≡ b = cc in
-    let ends = one_ends g a e d is (ap g.ends arcs ∙ at) in
+    let ends : e ≡ d = cc in
     let others = one_climb g parent t (near t d) w z more rest (subst (λ (x : Ends). Climb g parent t (near t x) w more) ends c) top c' end in
     cc
 
 -- with no orphans, no node of a tree has lost its parent
 pub not_lost : (v : Net) (f : Forest) (t : Terminal) (u : ℕ) → Trees v f → Empty f Orphans → u < v.graph.nodes → f.tree u ≡ Some t → f.parent u ≡ Orphan → ⊥
-not_lost v f t u h none there in_tree lost = both_ways (f.queued Orphans u) (none u (omega (arith, h.size))) (h.orphans t u there in_tree lost)
+not_lost v f t u h none there in_tree lost = cc (none u (omega arith), h.orphans t u there in_tree lost)
 
 -- and so parents lead from each node of a tree to the terminal
 pub all_anchored : (v : Net) (f : Forest) (t : Terminal) (u : ℕ) → Lawful v → Trees v f → Empty f Orphans → u < v.graph.nodes → f.tree u ≡ Some t → Anchored v.graph f.parent t u

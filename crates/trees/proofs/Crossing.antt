@@ -14,7 +14,7 @@ use Rattle.trees.specs.Forests.{Forest}
 use Rattle.trees.specs.Trees.{Climb, Bridge, There}
 use Rattle.trees.specs.Trees.Climb.{here}
 use Rattle.trees.specs.Searches.{Bridges}
-use Rattle.trees.specs.Climbs.{Settled, ClimbsFit, Climbed, ClimbWritten, DescentWritten, Passable}
+use Rattle.trees.specs.Climbs.{Settled, ClimbsFit, Climbed, DescentWritten, Passable}
 use Rattle.trees.proofs.Heights.{climbs_short}
 use Rattle.trees.proofs.Bridges.{over, bridge_leads, bridged}
 
@@ -54,9 +54,6 @@ tail_short v f a tail w xs l s b from c = omega (arith, ends_short v f a tail (n
 -- with the arcs down to the tail written, a climb from the head has room in what is left
 pub ascent_fits : (v : Net) (f : Forest) (a tail head m : ℕ) (before after : List ℕ) (told : ℕ × ℕ) → Lawful v → Settled v f → Bridges v f a → EndOf v Source a tail → EndOf v Sink a head → DescentWritten v.graph f.parent Source tail before after told → v.graph.nodes ≤ told.0 + m + 2 → ClimbsFit v.graph f.parent Sink head m
 ascent_fits v f a tail head m before after told l s b from to (xs, c, _) room z ys d = omega (arith, ends_short v f a tail head told.1 z xs ys l s b from to c.climb d, c.count)
-
-pub crossing_short : (v : Net) (f : Forest) (a tail head : ℕ) (before after old new : List ℕ) (below above : ℕ × ℕ) → Lawful v → Settled v f → Bridges v f a → EndOf v Source a tail → EndOf v Sink a head → DescentWritten v.graph f.parent Source tail before after below → ClimbWritten v.graph f.parent Sink head old new above → below.0 + above.0 + 2 ≤ v.graph.nodes
-crossing_short v f a tail head before after old new below above l s b from to (xs, c, _) (ys, d, _) = omega (arith, ends_short v f a tail head below.1 above.1 xs ys l s b from to c.climb d.climb, c.count, d.count)
 
 -- the path over the bridge, of the climbs from its two ends
 pub crossed : (v : Net) (f : Forest) (a tail head : ℕ) (below above : ℕ × ℕ) (xs ys : List ℕ) → Lawful v → Settled v f → Bridges v f a → EndOf v Source a tail → EndOf v Sink a head → Climbed v.graph f.parent Source tail below xs → Climbed v.graph f.parent Sink head above ys → Passable v f below.1 above.1 (over xs a ys)

@@ -44,9 +44,6 @@ disowned_trees v f u a h = each_way (Trees v) f u a (orphan_trees v f u a h) (λ
 pub disowned_same : (f : Forest) (u a : ℕ) → Carries f (disowned f u a)
 disowned_same f u a = each_way (Carries f) f u a (λ _. orphaned_same f u) (λ _. carries_none f)
 
-pub disowned_size : (f : Forest) (u a : ℕ) → (disowned f u a).size ≡ f.size
-disowned_size f u a = each_way (λ g. g.size ≡ f.size) f u a (λ _. refl) (λ _. refl)
-
 -- the node does not hang from the arc any longer, and no other has begun to
 pub disowned_here : (f : Forest) (u a : ℕ) → (disowned f u a).parent u ≡ Along a → ⊥
 disowned_here f u a = each_way (λ g. g.parent u ≡ Along a → ⊥) f u a (λ _ is. cc (at_here f.parent u Orphan u refl)) (λ not. not)

@@ -1,6 +1,5 @@
 -- When nobody waits and nobody is an orphan, the trees hold exactly what is reached from their terminals.
 use Rattle.std.proofs.Common.{◌≡◌, ℕ, ◌<◌, true, List, Some, None, Option, sym, refl, ap, ◌∙◌, ⊎_elim, arith}
-use Rattle.std.proofs.lemmas.Bool.{both_ways}
 use Rattle.network.specs.declared.terminal.Terminal.{Terminal}
 use Rattle.network.specs.declared.terminal.Terminal.TheVariants.{Source, Sink}
 use Rattle.network.specs.Nets.{Net, Lawful}
@@ -53,7 +52,7 @@ separate v f l h asleep adopted = record {
     inside t u (root there some) = (h.roots t u there some).0
     inside t u (along a e is some from to) = ⊎_elim
         (λ (in_far : f.tree (far t e) ≡ Some t). ap f.tree (sym to) ∙ in_far)
-        (λ (waits : f.queued Waiting (near t e) ≡ true). absurd (both_ways (f.queued Waiting (near t e)) (asleep (near t e) (omega (arith, h.size, near_there v.graph t a e l.graph is))) waits))
+        (λ (waits : f.queued Waiting (near t e) ≡ true). cc (asleep (near t e) (omega (arith, h.size, near_there v.graph t a e l.graph is))))
         (h.frontier t a e is some (inside t (near t e) from))
 
     held : (t : Terminal) (u : ℕ) → Reached v t u → tree_nodes f t u ≡ true

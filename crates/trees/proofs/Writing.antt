@@ -1,7 +1,7 @@
 -- Lists that are written over the beginning of others.
-use Rattle.std.proofs.Common.{◌≡◌, ℕ, ◌+◌, ◌-◌, ◌<◌, ◌≤◌, List, [], ◌∷◌, ◌++◌, reverse, length, get_or, take, drop, set, sym, refl, ap, ◌∙◌, arith}
+use Rattle.std.proofs.Common.{◌≡◌, ℕ, ◌+◌, ◌-◌, ◌<◌, ◌≤◌, List, [], ◌∷◌, ◌++◌, length, get_or, take, drop, set, sym, refl, ap, ◌∙◌, arith}
 use borrow.Rule.Slice.PartMut.{put_mid}
-use Rattle.std.proofs.lemmas.List.{append_assoc, append-nil, length-append, length-drop, length_push, length-reverse, set_at, drop_more, take_at, drop_at, drop-drop, drop_all, take_rest}
+use Rattle.std.proofs.lemmas.List.{append_assoc, append-nil, length-append, length-drop, length_push, set_at, drop_more, take_at, drop_at, drop-drop, drop_all, take_rest}
 use Rattle.trees.specs.Climbs.{Written}
 
 -- one number more
@@ -12,15 +12,6 @@ written_push before after xs k a is room w =
     let rest = drop (length xs + 1) before in
     let split : after ≡ xs ++ next ∷ rest = w ∙ ap (λ ys. xs ++ ys) (drop_more before (length xs) 0 inside) in
     ap (λ ys. set ys k a) split ∙ set_at xs next rest a k (sym is) ∙ sym (append_assoc xs (a ∷ []) rest) ∙ ap (λ j. (xs ++ a ∷ []) ++ drop j before) (sym (length_push xs a))
-
--- what is written, turned round
-pub written_turned : (before after part xs : List ℕ) (k : ℕ) → k ≡ length xs → Written before after xs → part ≡ reverse (take k after) → Written before (part ++ drop k after) (reverse xs)
-written_turned before after part xs k is w turned =
-    let rest = drop (length xs) before in
-    let front : take k after ≡ xs = ap (take k) w ∙ take_at xs rest k (sym is) in
-    let back : drop k after ≡ drop (length (reverse xs)) before = ap (drop k) w ∙ drop_at xs rest k (sym is) ∙ ap (λ j. drop j before) (sym (length-reverse xs)) in
-    let mirrored : part ≡ reverse xs = turned ∙ ap reverse front in
-    cc
 
 -- what is written over the part from k on goes on where xs ends
 pub written_part : (before after part xs ys : List ℕ) (k : ℕ) → k ≡ length xs → Written before after xs → Written (take (length after - k) (drop k after)) part ys → Written before (put_mid k (length after - k) after part) (xs ++ ys)

@@ -1,40 +1,17 @@
 use Rattle.std.proofs.Common.{◌+◌, [], ◌∷◌, ◌++◌, reverse, set, sym, ◌∙◌, subst, arith, rules}
 use Rattle.std.proofs.lemmas.List.{append_assoc, length_push, length-reverse}
-use Rattle.network.specs.declared.terminal.Terminal.TheVariants.{Source, Sink}
 use Rattle.trees.specs.Climbs.{Written}
 use Rattle.trees.proofs.Bridges.{over, over_length}
 use Rattle.trees.proofs.Writing.{written_push, written_part}
-use Rattle.trees.proofs.Crossing.{end_there, end_tree, tail_short, ascent_fits, crossed}
+use Rattle.trees.proofs.Crossing.{tail_short, ascent_fits, crossed}
 use Rattle.search.specs.Tables.{forest_of}
 use Rattle.search.proofs.tracing.trace_arcs.Goals as goal
 
-pub descend-below-requires : goal.descend-below-requires
-descend-below-requires g c =
-    let v = g.N.Network.value c.args.net.now in
-    let l = g.N.Network.lawful c.args.net.now in
-    let f = forest_of c.args.table.now in
-    let tail = c.near_end-tail.result in
-    let is = c.near_end-tail.ensures in
-    record {
-      trees = c.requires.trees;
-      there = end_there v f Source c.args.bridge tail l c.requires.bridge is;
-      tree = end_tree v f Source c.args.bridge tail c.requires.bridge is;
-      room = λ w xs climb. omega (arith, tail_short v f c.args.bridge tail w xs l c.requires.trees c.requires.bridge is climb);
-    }
+pub descend-below-requires-clause-room : goal.descend-below-requires-clause-room
+descend-below-requires-clause-room g c w xs climb = omega (arith, tail_short (g.N.Network.value c.args.net.now) (forest_of c.args.table.now) c.args.bridge c.near_end-tail.result w xs (g.N.Network.lawful c.args.net.now) c.requires.trees c.requires.bridge c.near_end-tail.ensures climb)
 
-pub climb-above-requires : goal.climb-above-requires
-climb-above-requires g c =
-    let v = g.N.Network.value c.args.net.now in
-    let l = g.N.Network.lawful c.args.net.now in
-    let f = forest_of c.args.table.now in
-    let head = c.near_end-head.result in
-    let is = c.near_end-head.ensures in
-    record {
-      trees = c.requires.trees;
-      there = end_there v f Sink c.args.bridge head l c.requires.bridge is;
-      tree = end_tree v f Sink c.args.bridge head c.requires.bridge is;
-      room = ascent_fits v f c.args.bridge c.near_end-tail.result head _ c.args.arcs.now c.descend-below.new.arcs c.descend-below.result l c.requires.trees c.requires.bridge c.near_end-tail.ensures is c.descend-below.ensures.written (search rules);
-    }
+pub climb-above-requires-clause-room : goal.climb-above-requires-clause-room
+climb-above-requires-clause-room g c = ascent_fits (g.N.Network.value c.args.net.now) (forest_of c.args.table.now) c.args.bridge c.near_end-tail.result c.near_end-head.result _ c.args.arcs.now c.descend-below.new.arcs c.descend-below.result (g.N.Network.lawful c.args.net.now) c.requires.trees c.requires.bridge c.near_end-tail.ensures c.near_end-head.ensures c.descend-below.ensures.written (search rules)
 
 pub returns : goal.returns
 returns g c =
