@@ -38,13 +38,13 @@ next_climb : (v : Net) (f : Forest) (t : Terminal) (u at : ℕ) (arcs : List ℕ
 next_climb v f t u at arcs h c (hung, e, is, above) =
     rw (← above) (climb_push v.graph f.parent t u at arcs h.arc e c hung is)
 
-pub rising_fits : (v : Net) (f : Forest) (t : Terminal) (u : ℕ) (before after : List ℕ) (steps at : ℕ) (h : Hop) → ClimbsFit v.graph f.parent t u (length before) → Hops v.graph f.parent t at (Some h) → Rising v f t u before after steps at → steps < length before
-rising_fits v f t u before after steps at h fit hop r =
+pub rising_fits : {v : Net} {f : Forest} {t : Terminal} {u : ℕ} {before after : List ℕ} {steps at : ℕ} (h : Hop) → ClimbsFit v.graph f.parent t u (length before) → Hops v.graph f.parent t at (Some h) → Rising v f t u before after steps at → steps < length before
+rising_fits {v = v} {f = f} {t = t} {u = u} {at = at} h fit hop r =
     omega (arith, fit h.node (r.arcs ++ h.arc ∷ []) (next_climb v f t u at r.arcs h r.climb hop), length-append r.arcs (h.arc ∷ []), r.count)
 
-pub rising_more : (v : Net) (f : Forest) (t : Terminal) (u : ℕ) (before after : List ℕ) (steps at : ℕ) (h : Hop) → ClimbsFit v.graph f.parent t u (length before) → Hops v.graph f.parent t at (Some h) → Rising v f t u before after steps at → Rising v f t u before (set after steps h.arc) (steps + 1) h.node
-rising_more v f t u before after steps at h fit hop r =
-    let room = rising_fits v f t u before after steps at h fit hop r in
+pub rising_more : {v : Net} {f : Forest} {t : Terminal} {u : ℕ} {before after : List ℕ} {steps at : ℕ} (h : Hop) → ClimbsFit v.graph f.parent t u (length before) → Hops v.graph f.parent t at (Some h) → Rising v f t u before after steps at → Rising v f t u before (set after steps h.arc) (steps + 1) h.node
+rising_more {v = v} {f = f} {t = t} {u = u} {before = before} {after = after} {steps = steps} {at = at} h fit hop r =
+    let room = rising_fits h fit hop r in
     record {
       arcs = r.arcs ++ h.arc ∷ [];
       climb = next_climb v f t u at r.arcs h r.climb hop;

@@ -107,12 +107,12 @@ freeing_more v t u k h before f l s b =
     (λ _. rw b.to (λ some. disowned_waits (woken v h f) w h.outward w (woken_waits v h f (rw (← b.back) some)), disowned_here (woken v h f) w h.outward)))
     (λ is. on f s (λ in_tree. cc (b.to, is_of_true t)))
 
-pub freeing_after : (v : Net) (t : Terminal) (u k : ℕ) (h : Neighbour) (before f f' : Forest) → Lawful v → Freeing v t u k before f → Beside v.graph t u k h → f' ≡ released v t h f → Freeing v t u (k + 1) before f'
-freeing_after v t u k h before f f' l s b is = rw is (freeing_more v t u k h before f l s b)
+pub freeing_after : {v : Net} {t : Terminal} {u k : ℕ} {h : Neighbour} {before f f' : Forest} → Lawful v → Freeing v t u k before f → Beside v.graph t u k h → f' ≡ released v t h f → Freeing v t u (k + 1) before f'
+freeing_after l s b is = rw is (freeing_more _ _ _ _ _ _ _ l s b)
 
 -- what the end of the loop needs to free the node
-pub freeing_ends : (v : Net) (t : Terminal) (u k : ℕ) (before f : Forest) → Lawful v → Freeing v t u k before f → slice_get (v.graph.arcs u) k ≡ None → Trees v (with_tree f u None) × SurveyKept v before (with_tree f u None)
-freeing_ends v t u k before f l s past =
+pub freeing_ends : {v : Net} {t : Terminal} {u k : ℕ} {before f : Forest} → Lawful v → Freeing v t u k before f → slice_get (v.graph.arcs u) k ≡ None → Trees v (with_tree f u None) × SurveyKept v before (with_tree f u None)
+freeing_ends {v = v} {t = t} {u = u} {k = k} {f = f} l s past =
     let all = through_all v.graph t u k (Loose v f t) l.graph past s.seen in
     let childless : (y : Terminal) (x b : ℕ) (d : Ends) → Branch v f y x b d → f.tree x ≡ Some y → f.parent x ≡ Along b → near y d ≡ u → ⊥ = λ y x b d br in_tree hangs from.
     let side : y ≡ t = cc in

@@ -12,8 +12,8 @@ use Rattle.search.specs.declared.reading.Neighbour.{Neighbour}
 use Rattle.search.specs.Readings.{Beside}
 use Rattle.search.specs.Adoptions.{Inward, Found}
 
-pub beside_inward : (v : Net) (t : Terminal) (u k : ℕ) (h : Neighbour) → Lawful v → Beside v.graph t u k h → Inward v.graph t u h
-beside_inward v t u k h l b =
+pub beside_inward : {v : Net} {t : Terminal} {u k : ℕ} {h : Neighbour} → Lawful v → Beside v.graph t u k h → Inward v.graph t u h
+beside_inward {v = v} {t = t} {h = h} l b =
     let a = h.outward in (
       reversed a b.ends,
       ap v.graph.ends (sym b.back) ∙ l.graph.back a b.ends b.out,

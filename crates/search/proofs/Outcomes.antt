@@ -48,12 +48,12 @@ ran v w before r part trail bytes ps m l is records room long wide logged end = 
     after = record { work = part ++ drop m before.work; trail = trail; marks = bytes ++ drop m before.marks }
 
     nodes : w.graph.nodes ≡ v.graph.nodes
-    nodes = logged_nodes v w before.trail trail r.log l (ps, logged)
+    nodes = logged_nodes l (ps, logged)
 
     stopped : (o : Outcome) → Ended w trail r.log (take m before.marks) bytes o → Stopped o v w before after r.log.words
-    stopped Paused ((path, short), same) = (path, omega (arith, nodes, trail_length v w before.trail trail r.log ps logged), ap (λ (xs : List ℕ). xs ++ drop m before.marks) same ∙ take-append-drop m before.marks)
+    stopped Paused ((path, short), same) = (path, omega (arith, nodes, trail_length logged), ap (λ (xs : List ℕ). xs ++ drop m before.marks) same ∙ take-append-drop m before.marks)
     stopped Finished (f, apart, marked) = (
-      no_path w f (logged_lowered v w before.trail trail r.log ps l logged).lawful apart,
+      no_path w f (logged_lowered l logged).lawful apart,
       marks_of v v.graph.nodes (bytes ++ drop m before.marks) l (λ u there. (
         mark_by (tree_nodes f Source u) (tree_nodes f Sink u),
         get_or_append_left bytes (drop m before.marks) 0 u (omega arith) ∙ marked u (omega (arith, nodes)),

@@ -31,13 +31,13 @@ pub record Scanning (v : Net) (t : Terminal) (u k : ℕ) (before f : Forest) : T
   pub seen : Through v.graph t u k (Inside v f t)
 
 -- a neighbour has a record
-pub scanning_there : (v : Net) (t : Terminal) (u k : ℕ) (before f : Forest) (h : Neighbour) → Lawful v → Scanning v t u k before f → Beside v.graph t u k h → h.node < f.size
-scanning_there v t u k before f h l s b =
+pub scanning_there : {v : Net} {t : Terminal} {u k : ℕ} {before f : Forest} {h : Neighbour} → Lawful v → Scanning v t u k before f → Beside v.graph t u k h → h.node < f.size
+scanning_there {v = v} {t = t} {h = h} l s b =
     omega (arith, b.to, s.trees.size, far_there v.graph t h.outward b.ends l.graph b.out)
 
 -- an arc that leads nowhere new
-pub scanning_more : (v : Net) (t : Terminal) (u k : ℕ) (before f : Forest) (h : Neighbour) → Lawful v → Scanning v t u k before f → Beside v.graph t u k h → (0 < v.residual h.outward → f.tree h.node ≡ Some t) → Scanning v t u (k + 1) before f
-scanning_more v t u k before f h l s b inside = record {
+pub scanning_more : {v : Net} {t : Terminal} {u k : ℕ} {before f : Forest} {h : Neighbour} → Lawful v → Scanning v t u k before f → Beside v.graph t u k h → (0 < v.residual h.outward → f.tree h.node ≡ Some t) → Scanning v t u (k + 1) before f
+scanning_more {v = v} {t = t} {u = u} {k = k} {f = f} {h = h} l s b inside = record {
   trees = s.trees;
   mine = s.mine;
   grows = s.grows;
@@ -54,7 +54,7 @@ scanning_joined v t u k before f h l s b some free =
     let there : w < v.graph.nodes = omega (arith, b.to, far_there v.graph t a b.ends l.graph b.out) in
     let kept : (x : ℕ) (y : Terminal) → f.tree x ≡ Some y → f'.tree x ≡ Some y = λ x y in_tree. grind (arith, nat_tests) in
     let joins = join_trees v (with_queued f Waiting u true) t w a b.ends l s.trees free (record { ends = b.out; child = b.to; positive = some; same_tree = ap f.tree b.from ∙ s.mine }) in
-    scanning_more v t u k before f' h l
+    scanning_more {f = f'} l
     (record {
       trees = requeue_trees v (joined (with_queued f Waiting u true) t w (Along a)) _ (at_twice (f.queued Waiting) u w) (λ _ is. is) joins;
       mine = kept u t s.mine;
@@ -65,11 +65,11 @@ scanning_joined v t u k before f h l s b some free =
     b
     (λ _. at_here f.tree w (Some t) w refl)
 
-pub scanning_grown : (v : Net) (t : Terminal) (u k : ℕ) (before f f' : Forest) (h : Neighbour) → Lawful v → Scanning v t u k before f → Beside v.graph t u k h → 0 < v.residual h.outward → f.tree h.node ≡ None → f' ≡ joined f t h.node (Along h.outward) → Scanning v t u (k + 1) before f'
-scanning_grown v t u k before f f' h l s b some free is = rw is (scanning_joined v t u k before f h l s b some free)
+pub scanning_grown : {v : Net} {t : Terminal} {u k : ℕ} {before f f' : Forest} {h : Neighbour} → Lawful v → Scanning v t u k before f → Beside v.graph t u k h → 0 < v.residual h.outward → f.tree h.node ≡ None → f' ≡ joined f t h.node (Along h.outward) → Scanning v t u (k + 1) before f'
+scanning_grown l s b some free is = rw is (scanning_joined _ _ _ _ _ _ _ l s b some free)
 
 -- every arc has been seen: the node need not wait
-pub scanning_ends : (v : Net) (t : Terminal) (u k : ℕ) (before f : Forest) → Lawful v → Scanning v t u k before f → slice_get (v.graph.arcs u) k ≡ None → Trees v f
-scanning_ends v t u k before f l s past = sleep_trees v f u s.trees (λ y a e in_tree is from some.
+pub scanning_ends : {v : Net} {t : Terminal} {u k : ℕ} {before f : Forest} → Lawful v → Scanning v t u k before f → slice_get (v.graph.arcs u) k ≡ None → Trees v f
+scanning_ends {v = v} {t = t} {u = u} {k = k} {f = f} l s past = sleep_trees v f u s.trees (λ y a e in_tree is from some.
     let side : y ≡ t = cc in
     rw side (through_all v.graph t u k (Inside v f t) l.graph past s.seen a e is (rw side at from) some))

@@ -25,25 +25,25 @@ free_sleeps v f u h free = sleep_trees v f u h (λ t a e in_tree is from some. c
 pub bridge_kept : (v : Net) (f f' : Forest) (a : ℕ) → f'.tree ≡ f.tree → Bridges v f a → Bridges v f' a
 bridge_kept v f f' a same (e, b) = (e, record { ends = b.ends; positive = b.positive; tail = rw same b.tail; head = rw same b.head })
 
-pub grows_on : (f g h : Forest) → Grows f g → Grows g h → Grows f h
-grows_on f g h a b = record { size = b.size ∙ a.size; orphans = b.orphans ∙ a.orphans; stages = b.stages ∙ a.stages }
+pub grows_on : {f g h : Forest} → Grows f g → Grows g h → Grows f h
+grows_on a b = record { size = b.size ∙ a.size; orphans = b.orphans ∙ a.orphans; stages = b.stages ∙ a.stages }
 
-pub turn_trees : (v : Net) (f f₁ : Forest) (l : Lane) (u : ℕ) → Trees v f → f₁ ≡ with_queued f l u false → TreesBut v f₁ l u
-turn_trees v f f₁ l u h is = rw is (picked_trees v f l u h)
+pub turn_trees : {v : Net} {f f₁ : Forest} (l : Lane) (u : ℕ) → Trees v f → f₁ ≡ with_queued f l u false → TreesBut v f₁ l u
+turn_trees l u h is = rw is (picked_trees _ _ l u h)
 
 pub turn_there : (v : Net) (f : Forest) (u : ℕ) → Trees v f → u < f.size → u < v.graph.nodes
 turn_there v f u h there = omega arith
 
-pub waiting_grows : (f f₁ : Forest) (u : ℕ) (b : Bool) → f₁ ≡ with_queued f Waiting u b → Grows f f₁
-waiting_grows f f₁ u b is = rw is (record { size = refl; orphans = refl; stages = refl })
+pub waiting_grows : {f f₁ : Forest} (u : ℕ) (b : Bool) → f₁ ≡ with_queued f Waiting u b → Grows f f₁
+waiting_grows u b is = rw is (record { size = refl; orphans = refl; stages = refl })
 
-pub turn_left : (v : Net) (f f₁ : Forest) (u : ℕ) → Trees v f → u < f.size → f.queued Waiting u ≡ true → f₁ ≡ with_queued f Waiting u false → growth_left v.graph.nodes f₁ < growth_left v.graph.nodes f
-turn_left v f f₁ u h there queued is =
+pub turn_left : {v : Net} {f f₁ : Forest} {u : ℕ} → Trees v f → u < f.size → f.queued Waiting u ≡ true → f₁ ≡ with_queued f Waiting u false → growth_left v.graph.nodes f₁ < growth_left v.graph.nodes f
+turn_left {v = v} {f = f} {u = u} h there queued is =
     omega (arith, growth_picked v.graph.nodes u f (turn_there v f u h there) queued, ap (λ (x : Forest). growth_left v.graph.nodes x) is)
 
-pub orphan_left : (v : Net) (f f₁ : Forest) (u : ℕ) → Trees v f → u < f.size → f.queued Orphans u ≡ true → f₁ ≡ with_queued f Orphans u false → adoption_left v.graph.nodes f₁ < adoption_left v.graph.nodes f
-orphan_left v f f₁ u h there queued is =
+pub orphan_left : {v : Net} {f f₁ : Forest} {u : ℕ} → Trees v f → u < f.size → f.queued Orphans u ≡ true → f₁ ≡ with_queued f Orphans u false → adoption_left v.graph.nodes f₁ < adoption_left v.graph.nodes f
+orphan_left {v = v} {f = f} {u = u} h there queued is =
     omega (arith, adoption_picked v.graph.nodes u f (turn_there v f u h there) queued, ap (adoption_left v.graph.nodes) is)
 
-pub turn_survey : (v : Net) (f f₁ : Forest) (u stage : ℕ) → Survey v f stage → f₁ ≡ with_queued f Orphans u false → Survey v f₁ stage
-turn_survey v f f₁ u stage s is = rw is (survey_queued v f stage Orphans u false s)
+pub turn_survey : {v : Net} {f f₁ : Forest} {stage : ℕ} (u : ℕ) → Survey v f stage → f₁ ≡ with_queued f Orphans u false → Survey v f₁ stage
+turn_survey u s is = rw is (survey_queued _ _ _ Orphans u false s)

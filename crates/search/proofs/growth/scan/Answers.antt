@@ -1,5 +1,4 @@
 use Rattle.std.proofs.Common.{◌+◌, arith, rules}
-use Rattle.search.specs.Tables.{forest_of}
 use Rattle.search.proofs.Neighbours.{met, passed}
 use Rattle.search.proofs.Scanning.{scanning_there, scanning_more, scanning_grown, scanning_ends}
 use Rattle.search.proofs.growth.scan.Goals as goal
@@ -7,26 +6,26 @@ use Rattle.search.proofs.growth.scan.Goals as goal
 pub work-requires : goal.work-requires
 work-requires g c =
     let (k, stands, s) = c.loop-next.invariant in
-    scanning_there _ _ _ _ _ _ _ (g.N.Network.lawful c.args.net.now) s (met g.N.Network.value stands c.in-Some.ensures.steps).0
+    scanning_there (g.N.Network.lawful c.args.net.now) s (met g.N.Network.value stands c.in-Some.ensures.steps).0
 
 pub join-requires : goal.join-requires
 join-requires g c =
     let (k, stands, s) = c.loop-next.invariant in
-    scanning_there _ _ _ _ _ _ _ (g.N.Network.lawful c.args.net.now) s (met g.N.Network.value stands c.in-Some.ensures.steps).0
+    scanning_there (g.N.Network.lawful c.args.net.now) s (met g.N.Network.value stands c.in-Some.ensures.steps).0
 
 pub loop-next-preserved-in-None-tree : goal.loop-next-preserved-in-None-tree
 loop-next-preserved-in-None-tree g c =
     let (k, stands, s) = c.loop-next.invariant in
     let (beside, on) = met g.N.Network.value stands c.in-Some.ensures.steps in
-    (k + 1, on, scanning_grown (g.N.Network.value c.args.net.now) c.args.terminal c.args.node k _ (forest_of c.loop-next.table) _ c.in-Some.next (g.N.Network.lawful c.args.net.now) s beside (omega arith) (cc) c.join.ensures)
+    (k + 1, on, scanning_grown (g.N.Network.lawful c.args.net.now) s beside (omega arith) (cc) c.join.ensures)
 
 pub loop-next-preserved-then-eq : goal.loop-next-preserved-then-eq
 loop-next-preserved-then-eq g c =
     let (k, stands, s) = c.loop-next.invariant in
     let (beside, on) = met g.N.Network.value stands c.in-Some.ensures.steps in
-    (k + 1, on, scanning_more (g.N.Network.value c.args.net.now) _ _ _ _ (forest_of c.loop-next.table) _ (g.N.Network.lawful c.args.net.now) s beside (λ _. search rules))
+    (k + 1, on, scanning_more (g.N.Network.lawful c.args.net.now) s beside (λ _. search rules))
 
 pub returns-clause-trees : goal.returns-clause-trees
 returns-clause-trees g c =
     let (k, stands, s) = c.loop-next.invariant in
-    scanning_ends _ _ _ _ _ (forest_of c.loop-next.table) (g.N.Network.lawful c.args.net.now) s (passed g.N.Network.value stands c.in-None.ensures.steps)
+    scanning_ends (g.N.Network.lawful c.args.net.now) s (passed g.N.Network.value stands c.in-None.ensures.steps)

@@ -13,30 +13,28 @@ carry-requires g c =
     let n = c.args.log.now.words in
     let (p, t) = c.trace-path.ensures in
     let room : n ≤ length c.args.trail.now = omega arith in
-    let is = read_is v f c.args.trail.now c.trace-path.new.words c.trace-path.result p n room t in
+    let is = read_is c.args.trail.now n room t in
     record {
       trees = c.requires.trees.trees;
       path = rw is t.augmenting;
-      end = read_last v f c.args.trail.now c.trace-path.new.words c.trace-path.result p n room t;
+      end = read_last c.args.trail.now n room t;
       onward = subst (λ (q : Path). AllOnward v.graph f q.arcs) (sym is) t.onward;
     }
 
 pub returns-clause-further : goal.returns-clause-further
 returns-clause-further g c =
     let v = g.N.Network.value c.args.net.now in
-    let f = forest_of c.args.table.now in
     let trail = c.args.trail.now in
     let log = c.args.log.now in
-    let r = c.trace-path.result in
     let (p, t) = c.trace-path.ensures in
-    let few = traced_few v f _ _ r p (g.N.Network.lawful c.args.net.now) t in
-    let more = log_traced v f _ _ r p log c.with.result t c.with.ensures in (
+    let few = traced_few (g.N.Network.lawful c.args.net.now) t in
+    let more = log_traced log t c.with.ensures in (
       p,
       record {
         augmenting = t.augmenting;
-        value = c.carry.ensures.value ∙ ap (carried v) (read_is v f trail c.trace-path.new.words r p log.words (omega arith) t);
+        value = c.carry.ensures.value ∙ ap (carried v) (read_is trail log.words (omega arith) t);
         log = more;
         fits = omega (arith, few, ap (λ (x : Log). x.words) c.with.ensures);
-        trail = trail_traced v f trail c.trace-path.new.words r p log c.with.result (omega arith) t more;
+        trail = trail_traced trail log (omega arith) t more;
       },
     )

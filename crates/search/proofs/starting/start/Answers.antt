@@ -6,27 +6,26 @@ use Rattle.search.proofs.starting.start.Goals.{then-amount-gt0+else-is_short, el
 use Rattle.search.proofs.starting.start.Goals as goal
 
 pub amount_through-amount-requires : goal.amount_through-amount-requires
-amount_through-amount-requires g c = omega (arith, logged_nodes _ _ _ _ _ (g.N.Network.lawful c.args.net.now) c.loop-node.invariant.0)
+amount_through-amount-requires g c = omega (arith, logged_nodes (g.N.Network.lawful c.args.net.now) c.loop-node.invariant.0)
 
 pub returns-then-is_short-clause-started : goal.returns-then-is_short-clause-started
 returns-then-is_short-clause-started g c =
     let v = g.N.Network.value c.loop-node.net in
     let u = c.loop-node.node in
     let x = c.amount_through-amount.result in
-    let same = logged_nodes _ v _ _ _ (g.N.Network.lawful c.args.net.now) c.loop-node.invariant.0 in
+    let same = logged_nodes (g.N.Network.lawful c.args.net.now) c.loop-node.invariant.0 in
     ((node_path u x, single v u x (omega arith) c.if-amount-gt0.true c.amount_through-amount.ensures), omega arith)
 
 pub pass_through-requires-clause-there : goal.pass_through-requires-clause-there
-pass_through-requires-clause-there g c = omega (arith, logged_nodes _ _ _ _ _ (g.N.Network.lawful c.args.net.now) c.loop-node.invariant.0)
+pass_through-requires-clause-there g c = omega (arith, logged_nodes (g.N.Network.lawful c.args.net.now) c.loop-node.invariant.0)
 
 pub pass_through-requires-clause-bounded : goal.pass_through-requires-clause-bounded
 pass_through-requires-clause-bounded g c =
     let (ps, logged) = c.loop-node.invariant.0 in
-    logged_bounded _ _ _ _ _ ps (g.N.Network.lawful c.args.net.now) logged
+    logged_bounded (g.N.Network.lawful c.args.net.now) logged
 
 pub loop-node-preserved : goal.loop-node-preserved
 loop-node-preserved g c =
-    let v₀ = g.N.Network.value c.args.net.now in
     let v = g.N.Network.value c.loop-node.net in
     let u = c.loop-node.node in
     let x = c.amount_through-amount.result in
@@ -34,12 +33,12 @@ loop-node-preserved g c =
     elim c.if-amount-gt0.branch [
       | then-amount-gt0+else-is_short w ↦
           let further = w.pass_through.ensures in
-          rw (w.net-is, w.trail-is, w.log-is) ((ps ++ node_path u x ∷ [], logged_more v₀ v (g.N.Network.value w.pass_through.new.net) _ _ _ _ _ ps (node_path u x) logged further), apart_passed v _ u x apart c.amount_through-amount.ensures further.value)
+          rw (w.net-is, w.trail-is, w.log-is) ((ps ++ node_path u x ∷ [], logged_more logged further), apart_passed v _ u x apart c.amount_through-amount.ensures further.value)
       | else-amount-gt0 w ↦ rw (w.net-is, w.trail-is, w.log-is) ((ps, logged), apart_more v u apart (λ some more. omega arith))
     ]
 
 pub returns-clause-started : goal.returns-clause-started
 returns-clause-started g c =
     let (logged, apart) = c.loop-node.invariant in
-    let same = logged_nodes _ _ _ _ _ (g.N.Network.lawful c.args.net.now) logged in
+    let same = logged_nodes (g.N.Network.lawful c.args.net.now) logged in
     λ u there. apart u (omega arith)

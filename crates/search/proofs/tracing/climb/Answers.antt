@@ -17,7 +17,7 @@ step_up-requires g c =
 -- there is room for one arc more
 room : (g : given.Over) (c : goal.In-Some g) → c.loop-hop.steps < length c.loop-hop.arcs
 room g c =
-    let less : c.loop-hop.steps < length c.args.arcs.now = rising_fits (g.N.Network.value c.args.net.now) (forest_of c.args.table.now) c.args.terminal c.args.node c.args.arcs.now c.loop-hop.arcs c.loop-hop.steps c.loop-hop.at c.in-Some.hop c.requires.room c.in-Some.ensures c.loop-hop.invariant in
+    let less : c.loop-hop.steps < length c.args.arcs.now = rising_fits c.in-Some.hop c.requires.room c.in-Some.ensures c.loop-hop.invariant in
     omega arith
 
 pub bounds-arcs-steps : goal.bounds-arcs-steps
@@ -27,4 +27,4 @@ pub loop-hop-smaller : goal.loop-hop-smaller
 loop-hop-smaller g c = let less = room g c in search rules
 
 pub loop-hop-preserved : goal.loop-hop-preserved
-loop-hop-preserved g c = rising_more (g.N.Network.value c.args.net.now) (forest_of c.args.table.now) c.args.terminal c.args.node c.args.arcs.now c.loop-hop.arcs c.loop-hop.steps c.loop-hop.at c.in-Some.hop c.requires.room c.in-Some.ensures c.loop-hop.invariant
+loop-hop-preserved g c = rising_more c.in-Some.hop c.requires.room c.in-Some.ensures c.loop-hop.invariant

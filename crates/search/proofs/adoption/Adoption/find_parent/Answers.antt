@@ -8,7 +8,7 @@ use Rattle.search.proofs.adoption.Adoption.find_parent.Goals as goal
 pub ask-requires-clause-inward : goal.ask-requires-clause-inward
 ask-requires-clause-inward g c =
     let ((k, stands), _, _, _) = c.loop-next.invariant in
-    beside_inward (g.N.Network.value c.args.self.now.net.now) c.args.self.now.terminal c.args.node k c.in-Some.next (g.N.Network.lawful c.args.self.now.net.now) (met g.N.Network.value stands c.in-Some.ensures.steps).0
+    beside_inward (g.N.Network.lawful c.args.self.now.net.now) (met g.N.Network.value stands c.in-Some.ensures.steps).0
 
 pub loop-next-preserved-in-Some-ask : goal.loop-next-preserved-in-Some-ask
 loop-next-preserved-in-Some-ask g c =

@@ -9,32 +9,28 @@ use Rattle.search.proofs.adoption.Adoption.free.Goals as goal
 
 pub release-requires : goal.release-requires
 release-requires g c =
-    let v = g.N.Network.value c.args.self.now.net.now in
     let l = g.N.Network.lawful c.args.self.now.net.now in
     let (k, stands, s) = c.loop-next.invariant in
     let (beside, _) = met g.N.Network.value stands c.in-Some.ensures.steps in
-    let inward = beside_inward v c.args.self.now.terminal c.args.node k c.in-Some.next l beside in
+    let inward = beside_inward l beside in
     record {
       there = (inward.0, inward.1);
-      inside = rw s.trees.size (inward_there v c.args.self.now.terminal c.args.node c.in-Some.next l inward);
+      inside = rw s.trees.size (inward_there (g.N.Network.value c.args.self.now.net.now) c.args.self.now.terminal c.args.node c.in-Some.next l inward);
     }
 
 pub loop-next-preserved : goal.loop-next-preserved
 loop-next-preserved g c =
     let (k, stands, s) = c.loop-next.invariant in
     let (beside, on) = met g.N.Network.value stands c.in-Some.ensures.steps in
-    (k + 1, on, freeing_after (g.N.Network.value c.args.self.now.net.now) c.args.self.now.terminal c.args.node k c.in-Some.next (forest_of c.args.table.now) (forest_of c.loop-next.table) (forest_of c.release.new.table) (g.N.Network.lawful c.args.self.now.net.now) s beside c.release.ensures)
+    (k + 1, on, freeing_after (g.N.Network.lawful c.args.self.now.net.now) s beside c.release.ensures)
 
 pub returns : goal.returns
 returns g c =
-    let v = g.N.Network.value c.args.self.now.net.now in
-    let l = g.N.Network.lawful c.args.self.now.net.now in
-    let before = forest_of c.args.table.now in
-    let f = forest_of c.loop-next.table in
+    let n = (g.N.Network.value c.args.self.now.net.now).graph.nodes in
     let (k, stands, s) = c.loop-next.invariant in
-    let (trees, survey) = freeing_ends v c.args.self.now.terminal c.args.node k before f l s (passed g.N.Network.value stands c.in-None.ensures.steps) in
+    let (trees, survey) = freeing_ends (g.N.Network.lawful c.args.self.now.net.now) s (passed g.N.Network.value stands c.in-None.ensures.steps) in
     record {
       trees = rw c.set_tree.ensures trees;
       survey = rw c.set_tree.ensures survey;
-      left = omega (arith, adoption_freed v.graph.nodes c.args.node before f c.args.self.now.terminal c.requires.there s.same c.requires.mine, ap (adoption_left v.graph.nodes) c.set_tree.ensures);
+      left = omega (arith, adoption_freed n c.args.node (forest_of c.args.table.now) (forest_of c.loop-next.table) c.args.self.now.terminal c.requires.there s.same c.requires.mine, ap (adoption_left n) c.set_tree.ensures);
     }
