@@ -18,9 +18,9 @@ use Rattle.search.specs.declared.tracing.Traced.{Traced}
 use Rattle.search.specs.declared.tracing.Way.{Way}
 use Rattle.search.specs.Tracings.{Hops, PathWritten}
 
-pub hung_from : (v : Net) (f : Forest) (t : Terminal) (u a above : ℕ) → Settled v f → u < v.graph.nodes → f.tree u ≡ Some t → f.parent u ≡ Along a → above ≡ near t (ends_of v.graph a) → Hops v.graph f.parent t u (Some (record { arc = a; node = above }))
-hung_from v f t u a above s there in_tree hung is =
-    let (e, at) = branch_there v f t u a (s.trees.parents t u a there in_tree hung) in
+pub hung_from : {v : Net} {f : Forest} {t : Terminal} {u above : ℕ} (a : ℕ) → Settled v f → u < v.graph.nodes → f.tree u ≡ Some t → f.parent u ≡ Along a → above ≡ near t (ends_of v.graph a) → Hops v.graph f.parent t u (Some (record { arc = a; node = above }))
+hung_from {v = v} {t = t} {u = u} a s there in_tree hung is =
+    let (e, at) = branch_there (s.trees.parents t u a there in_tree hung) in
     (hung, e, at, sym (is ∙ ap (near t) (ends_are v.graph a e at)))
 
 -- the climb so far, its arcs written over the beginning of a list

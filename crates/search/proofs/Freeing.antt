@@ -41,7 +41,6 @@ pub record Freeing (v : Net) (t : Terminal) (u k : ℕ) (before f : Forest) : Ty
 -- a node waits
 freeing_woken : (v : Net) (t : Terminal) (u k w : ℕ) (before f : Forest) → Freeing v t u k before f → Freeing v t u k before (with_queued f Waiting w true)
 freeing_woken v t u k w before f h =
-    let f' = with_queued f Waiting w true in
     record {
       trees = requeue_trees v (with_queued f Orphans u true) _ (at_more (f.queued Waiting) w) (λ _ is. is) h.trees;
       same = h.same;
@@ -54,7 +53,6 @@ freeing_woken v t u k w before f h =
 -- a child loses its parent
 freeing_orphaned : (v : Net) (t : Terminal) (u k c a : ℕ) (e : Ends) (before f : Forest) → Lawful v → Freeing v t u k before f → f.parent c ≡ Along a → f.tree c ≡ Some t → v.graph.ends a ≡ Some e → near t e ≡ u → Freeing v t u k before (orphaned f c)
 freeing_orphaned v t u k c a e before f l h hangs child is from =
-    let f' = orphaned f c in
     let loose : (y : Terminal) → f.tree c ≡ Some y → Anchored v.graph f.parent y c → ⊥ = λ y in_tree anchored.
     let side : y ≡ t = cc in
     orphan_loose v.graph f.parent t u h.alone (rw (← from) (anchored_above v.graph f.parent t c a e hangs is (rw side at anchored))) in

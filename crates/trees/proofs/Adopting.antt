@@ -26,13 +26,13 @@ orphan_stays v f f' t u is o = rw is (record {
   alone = o.alone;
 })
 
-pub adopted_trees : (v : Net) (f : Forest) (t : Terminal) (u a stage : ℕ) → Lawful v → PickedOrphan v f t u → Offered v f t u a → Trees v (with_stage (with_parent f u (Along a)) u stage)
-adopted_trees v f t u a stage l o (e, b, anchored) =
+pub adopted_trees : {v : Net} {f : Forest} {t : Terminal} {u a : ℕ} (stage : ℕ) → Lawful v → PickedOrphan v f t u → Offered v f t u a → Trees v (with_stage (with_parent f u (Along a)) u stage)
+adopted_trees {v = v} {f = f} {t = t} {u = u} {a = a} stage l o (e, b, anchored) =
     let f' = with_parent f u (Along a) in
     restage_trees v f' (with_stage f' u stage).stage (adopt_trees v f t u a e l o.trees o.alone o.mine b anchored)
 
-pub adopted_survey : (v : Net) (f : Forest) (t : Terminal) (u a stage : ℕ) → PickedOrphan v f t u → Offered v f t u a → Survey v f stage → Survey v (with_stage (with_parent f u (Along a)) u stage) stage
-adopted_survey v f t u a stage o (e, b, anchored) s =
+pub adopted_survey : {v : Net} {f : Forest} {t : Terminal} {u a stage : ℕ} → PickedOrphan v f t u → Offered v f t u a → Survey v f stage → Survey v (with_stage (with_parent f u (Along a)) u stage) stage
+adopted_survey {v = v} {f = f} {t = t} {u = u} {a = a} {stage = stage} o (e, b, anchored) s =
     let f' = with_parent f u (Along a) in
     let above = anchored_adopted v.graph f.parent t u _ (Along a) o.alone anchored in
     survey_stage v f' stage t u (survey_adopted v f stage t u a s o.alone o.mine (e, b, anchored)) o.mine (anchored_below v.graph f'.parent t u a e (at_here f.parent u (Along a) u refl) b.ends above)

@@ -17,8 +17,8 @@ pub branch_at : (v : Net) (f : Forest) (t : Terminal) (u a : ℕ) (e : Ends) →
 branch_at v f t u a e (d, b) is = subst (Branch v f t u a) (one_ends v.graph a d e b.ends is) b
 
 -- a node's parent arc is there
-pub branch_there : (v : Net) (f : Forest) (t : Terminal) (u a : ℕ) → (e : Ends) × Branch v f t u a e → There v.graph a
-branch_there v f t u a (e, b) = (e, b.ends)
+pub branch_there : {v : Net} {f : Forest} {t : Terminal} {u a : ℕ} → (e : Ends) × Branch v f t u a e → There v.graph a
+branch_there (e, b) = (e, b.ends)
 
 -- what the trees say of the arc that u hangs from
 pub parent_arc : (v : Net) (f : Forest) (t : Terminal) (u a : ℕ) (e : Ends) → Trees v f → u < v.graph.nodes → f.tree u ≡ Some t → f.parent u ≡ Along a → v.graph.ends a ≡ Some e → Branch v f t u a e

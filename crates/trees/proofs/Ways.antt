@@ -48,11 +48,11 @@ way_rest v f f' a x more l same w =
 way_here : (v₁ : Net) (arcs : List ℕ) (x i : ℕ) (v : Net) (f : Forest) → i < length arcs → Sending v₁ arcs x i v f → Way v f x (get_or arcs i 0 ∷ drop (i + 1) arcs)
 way_here v₁ arcs x i v f inside s = subst (Way v f x) (drop_more arcs i 0 inside) s.way
 
-pub sending_next : (v₁ : Net) (arcs : List ℕ) (x i : ℕ) (v : Net) (f : Forest) → i < length arcs → Sending v₁ arcs x i v f → OnwardArc v f (get_or arcs i 0) × (x ≤ v.residual (get_or arcs i 0))
-sending_next v₁ arcs x i v f inside s = way_first v f (get_or arcs i 0) x (drop (i + 1) arcs) (way_here v₁ arcs x i v f inside s)
+pub sending_next : {v₁ : Net} {arcs : List ℕ} {x i : ℕ} {v : Net} {f : Forest} → i < length arcs → Sending v₁ arcs x i v f → OnwardArc v f (get_or arcs i 0) × (x ≤ v.residual (get_or arcs i 0))
+sending_next inside s = way_first _ _ _ _ _ (way_here _ _ _ _ _ _ inside s)
 
-pub sending_more : (v₁ : Net) (arcs : List ℕ) (x i : ℕ) (v v' : Net) (f f' : Forest) → Lawful v → i < length arcs → v' ≡ shifted v (get_or arcs i 0) x → Trees v' f' → f'.tree ≡ f.tree → Sending v₁ arcs x i v f → Sending v₁ arcs x (i + 1) v' f'
-sending_more v₁ arcs x i v v' f f' l inside value h same s =
+pub sending_more : {v₁ : Net} {arcs : List ℕ} {x i : ℕ} {v v' : Net} {f f' : Forest} → Lawful v → i < length arcs → v' ≡ shifted v (get_or arcs i 0) x → Trees v' f' → f'.tree ≡ f.tree → Sending v₁ arcs x i v f → Sending v₁ arcs x (i + 1) v' f'
+sending_more {v₁ = v₁} {arcs = arcs} {x = x} {i = i} {v = v} {f = f} {f' = f'} l inside value h same s =
     let a = get_or arcs i 0 in
     let more = drop (i + 1) arcs in
     record {

@@ -9,9 +9,7 @@ pub plant-requires-clause-cleared : goal.plant-requires-clause-cleared
 plant-requires-clause-cleared g c = c.cleared-table.ensures ∙ ap cleared (omega (arith, logged_nodes (g.N.Network.lawful c.args.net.now) c.start.ensures.logged))
 
 pub search_on-outcome-requires-clause-bounded : goal.search_on-outcome-requires-clause-bounded
-search_on-outcome-requires-clause-bounded g c =
-    let (ps, logged) = c.start.ensures.logged in
-    logged_bounded (g.N.Network.lawful c.args.net.now) logged
+search_on-outcome-requires-clause-bounded g c = logged_bounded (g.N.Network.lawful c.args.net.now) c.start.ensures.logged.1
 
 pub mark-requires : goal.mark-requires
 mark-requires g c = omega (arith, logged_nodes (g.N.Network.lawful c.args.net.now) c.start.ensures.logged)

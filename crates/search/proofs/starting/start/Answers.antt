@@ -20,9 +20,7 @@ pub pass_through-requires-clause-there : goal.pass_through-requires-clause-there
 pass_through-requires-clause-there g c = omega (arith, logged_nodes (g.N.Network.lawful c.args.net.now) c.loop-node.invariant.0)
 
 pub pass_through-requires-clause-bounded : goal.pass_through-requires-clause-bounded
-pass_through-requires-clause-bounded g c =
-    let (ps, logged) = c.loop-node.invariant.0 in
-    logged_bounded (g.N.Network.lawful c.args.net.now) logged
+pass_through-requires-clause-bounded g c = logged_bounded (g.N.Network.lawful c.args.net.now) c.loop-node.invariant.0.1
 
 pub loop-node-preserved : goal.loop-node-preserved
 loop-node-preserved g c =

@@ -25,8 +25,8 @@ returns-in-Some g c =
     let offered = c.in-Some.ensures.found in
     let is : forest_of c.set_stage.new.self ≡ with_stage (with_parent f u (Along a)) u stage = c.set_stage.ensures ∙ ap (λ (x : Forest). with_stage x u stage) c.set_parent.ensures in
     record {
-      trees = rw is (adopted_trees v f t u a stage (g.N.Network.lawful c.args.self.now.net.now) o offered);
-      survey = rw is (adopted_survey v f t u a stage o offered found.survey);
+      trees = rw is (adopted_trees stage (g.N.Network.lawful c.args.self.now.net.now) o offered);
+      survey = rw is (adopted_survey o offered found.survey);
       left = omega (arith, ap (adoption_left n) is, ap (adoption_left n) found.trees);
     }
 

@@ -13,13 +13,10 @@ returns-in-Root g c =
 pub near_end-at-requires : goal.near_end-at-requires
 near_end-at-requires g c =
     let (there, mine, _) = c.loop-steps.invariant in
-    let t = c.args.self.now.terminal in
-    let u = c.loop-steps.at in
-    let a = c.in-Along.arc in
-    branch_there (g.N.Network.value c.args.self.now.net.now) (forest_of c.args.table.now) t u a (c.requires.survey.parents t u a there mine (cc))
+    branch_there (c.requires.survey.parents c.args.self.now.terminal c.loop-steps.at c.in-Along.arc there mine (cc))
 
 pub loop-steps-preserved : goal.loop-steps-preserved
 loop-steps-preserved g c =
     let (there, mine, on) = c.loop-steps.invariant in
-    let step = step_up (g.N.Network.value c.args.self.now.net.now) (forest_of c.args.table.now) c.args.self.now.stage c.args.self.now.terminal c.loop-steps.at c.in-Along.arc c.near_end-at.result (g.N.Network.lawful c.args.self.now.net.now) c.requires.survey there mine (cc) c.near_end-at.ensures in
+    let step = step_up c.in-Along.arc (g.N.Network.lawful c.args.self.now.net.now) c.requires.survey there mine (cc) c.near_end-at.ensures in
     (step.there, step.mine, λ anchored. on (step.below anchored))
