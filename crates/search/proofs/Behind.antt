@@ -10,7 +10,7 @@ use Rattle.network.specs.Paths.{Augmenting, carried}
 use Rattle.network.proofs.Lists.{distinct_one}
 use Rattle.trees.specs.Plantings.{ApartBelow}
 use Rattle.trees.specs.Climbs.{Written}
-use Rattle.trees.proofs.Writing.{written_part}
+use Rattle.trees.proofs.Writing.{three, written_part}
 use Rattle.search.specs.Trails.{node_path}
 
 -- what is written over the part from n on stands behind the first n words
@@ -23,10 +23,7 @@ put_behind trail part ys n room w =
     written_part trail trail part xs ys n long whole w ∙ append_assoc xs ys (drop (length (xs ++ ys)) trail) ∙ ap (λ (k : ℕ). xs ++ (ys ++ drop k trail)) last
 
 pub set_three : (before : List ℕ) (a b c : ℕ) → 3 ≤ length before → Written before (set (set (set before 0 a) 1 b) 2 c) (a ∷ b ∷ c ∷ [])
-set_three [] a b c room = absurd (omega arith)
-set_three (x ∷ []) a b c room = absurd (omega arith)
-set_three (x ∷ y ∷ []) a b c room = absurd (omega arith)
-set_three (x ∷ y ∷ z ∷ more) a b c room = refl
+set_three before a b c room = let (x, y, z, more, is) = three before room in rw is
 
 -- a node with residuals at both terminals is a path
 pub single : (v : Net) (u x : ℕ) → u < v.graph.nodes → 0 < x → x ≡ min (v.terminal Source u) (v.terminal Sink u) → Augmenting v (node_path u x)

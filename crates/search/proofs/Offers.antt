@@ -39,5 +39,5 @@ found_stands v f f' t u (Some o) is found = offer_stands v f f' t u o.arc is fou
 pub found_nearer : (v : Net) (f : Forest) (t : Terminal) (u : ℕ) (best : Option Offer) (r o : Offer) → (Some r ≡ best) ⊎ (r ≡ o) → Found v f t u best → Offered v f t u o.arc → Offered v f t u r.arc
 found_nearer v f t u best r o which found offer = ⊎_elim
     (λ (is : Some r ≡ best). subst (Found v f t u) (sym is) found)
-    (λ (is : r ≡ o). subst (λ (x : Offer). Offered v f t u x.arc) (sym is) offer)
+    (λ (is : r ≡ o). rw is offer)
     which

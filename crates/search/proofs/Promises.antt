@@ -76,7 +76,7 @@ concluded v w g k before r x after so_far (_, ps, ran) all finished =
     let same = ap (λ (h : Graph). h.nodes) so_far.lowered.graph in (
       cheapest,
       marks_of v v.graph.nodes after.marks so_far.begun (λ u there.
-          let (m, byte, marked) = marks.mark u (subst (λ (n : ℕ). u < n) (sym same) there) in
+          let (m, byte, marked) = marks.mark u (omega (arith, same)) in
           (m, byte, (constant_apart v w g so_far.lowered.costs).marks u m marked)),
     )
 

@@ -52,4 +52,4 @@ least_more v first last arcs i m inside s =
     let r = v.residual (get_or arcs i 0) in
     let source = v.terminal Source first in
     let sink = v.terminal Sink last in
-    subst (λ xs. Smallest (min m r) (source ∷ (xs ++ sink ∷ []))) (sym (map_more v.residual arcs i 0 inside)) (smallest_between m r sink (source ∷ map v.residual (take i arcs)) s)
+    rw (map_more v.residual arcs i 0 inside) (smallest_between m r sink (source ∷ map v.residual (take i arcs)) s)

@@ -38,10 +38,7 @@ planting_none v = record {
 pub planting_free : (v : Net) (k : ℕ) (f : Forest) → root_tree v k ≡ None → Planting v k f → Planting v (k + 1) f
 planting_free v k f none p = record {
   size = p.size;
-  planted = λ u below. ⊎_elim
-      (λ (is : u ≡ k). p.free u (omega arith) ∙ rw is (sym none))
-      (λ (not : u ≡ k → ⊥). p.planted u (omega arith))
-      (cases_eq u k);
+  planted = λ u below. grind (arith, cases_eq u k, p.planted u, p.free u);
   free = λ u from. p.free u (omega arith);
   roots = p.roots;
   orphans = p.orphans;
@@ -51,10 +48,7 @@ planting_free v k f none p = record {
 pub planting_root : (v : Net) (k : ℕ) (f : Forest) (t : Terminal) → root_tree v k ≡ Some t → Planting v k f → Planting v (k + 1) (joined f t k Root)
 planting_root v k f t some p = record {
   size = p.size;
-  planted = λ u below. ⊎_elim
-      (λ (is : u ≡ k). at_here f.tree k (Some t) u is ∙ rw is (sym some))
-      (λ (not : u ≡ k → ⊥). at_else f.tree k (Some t) u not ∙ p.planted u (omega arith))
-      (cases_eq u k);
+  planted = λ u below. grind (arith, nat_tests, p.planted u);
   free = λ u from. grind (arith, nat_tests, p.free u);
   roots = λ s u in_tree. (grind (arith, nat_tests, p.roots s u), grind (arith, nat_tests, p.roots s u));
   orphans = p.orphans;

@@ -32,16 +32,20 @@ written_part before after part xs ys k is w u =
 three_kept : (a b c : ℕ) (more part xs : List ℕ) → Written (take (length (a ∷ b ∷ c ∷ more) - 3) more) part xs → Written (a ∷ b ∷ c ∷ more) (put_mid 3 (length (a ∷ b ∷ c ∷ more) - 3) (a ∷ b ∷ c ∷ more) part) (a ∷ b ∷ c ∷ xs)
 three_kept a b c more part xs w = written_part (a ∷ b ∷ c ∷ more) (a ∷ b ∷ c ∷ more) part (a ∷ b ∷ c ∷ []) xs 3 refl refl w
 
+-- the first three words
+pub three : (xs : List ℕ) → 3 ≤ length xs → (a b c : ℕ) × (more : List ℕ) × (xs ≡ a ∷ b ∷ c ∷ more)
+three [] room = absurd (omega arith)
+three (a ∷ []) room = absurd (omega arith)
+three (a ∷ b ∷ []) room = absurd (omega arith)
+three (a ∷ b ∷ c ∷ more) room = (a, b, c, more, refl)
+
 pub three_words : (before part xs : List ℕ) (k x u : ℕ) → 3 ≤ length before → Written (take (length before - 3) (drop 3 before)) part xs → Written before (set (set (set (put_mid 3 (length before - 3) before part) 0 k) 1 x) 2 u) (k ∷ x ∷ u ∷ xs)
-three_words [] part xs k x u room w = absurd (omega arith)
-three_words (a ∷ []) part xs k x u room w = absurd (omega arith)
-three_words (a ∷ b ∷ []) part xs k x u room w = absurd (omega arith)
-three_words (a ∷ b ∷ c ∷ more) part xs k x u room w = ap (λ ys. set (set (set ys 0 k) 1 x) 2 u) (three_kept a b c more part xs w)
+three_words before part xs k x u room w =
+    let (a, b, c, more, is) = three before room in
+    rw is (ap (λ ys. set (set (set ys 0 k) 1 x) 2 u) (three_kept a b c more part xs (rw is at w)))
 
 -- what is written over the part from 3 on is read there
 pub read_after_three : (before part xs : List ℕ) (k : ℕ) → 3 ≤ length before → k ≡ length xs → Written (take (length before - 3) (drop 3 before)) part xs → take (3 + k - 3) (drop 3 (put_mid 3 (length before - 3) before part)) ≡ xs
-read_after_three [] part xs k room is w = absurd (omega arith)
-read_after_three (a ∷ []) part xs k room is w = absurd (omega arith)
-read_after_three (a ∷ b ∷ []) part xs k room is w = absurd (omega arith)
-read_after_three (a ∷ b ∷ c ∷ more) part xs k room is w =
-    ap (λ ys. take (3 + k - 3) (drop 3 ys)) (three_kept a b c more part xs w) ∙ take_at xs (drop (length xs) more) (3 + k - 3) (omega arith)
+read_after_three before part xs k room is w =
+    let (a, b, c, more, whole) = three before room in
+    rw whole (ap (λ ys. take (3 + k - 3) (drop 3 ys)) (three_kept a b c more part xs (rw whole at w)) ∙ take_at xs (drop (length xs) more) (3 + k - 3) (omega arith))
