@@ -33,8 +33,8 @@ read_back r trail from = record { amount = r.amount; first = r.first; arcs = tak
 arcs_back : (p : Path) (trail before rest : List ℕ) (n k : ℕ) → n ≤ length before → trail ≡ take n before ++ (path_words p ++ rest) → k ≡ length p.arcs → take (n + 3 + k - (n + 3)) (drop (n + 3) trail) ≡ p.arcs
 arcs_back p trail before rest n k room is long =
     let words = path_words p ++ rest in
-    let from : drop (n + 3) trail ≡ p.arcs ++ rest = sym (drop-drop 3 n trail) ∙ ap (λ (xs : List ℕ). drop 3 (drop n xs)) is ∙ ap (drop 3) (drop_at (take n before) words n (length-take-le n before room)) in
-    ap (take (n + 3 + k - (n + 3))) from ∙ take_at p.arcs rest (n + 3 + k - (n + 3)) (omega arith)
+    let from : drop (n + 3) trail ≡ p.arcs ++ rest = rw (← drop-drop 3 n trail, is, drop_at (take n before) words n (length-take-le n before room)) in
+    rw from (take_at p.arcs rest (n + 3 + k - (n + 3)) (omega arith))
 
 pub read_is : {v : Net} {f : Forest} {after : List ℕ} {r : Traced} {p : Path} (trail : List ℕ) (n : ℕ) → n ≤ length trail → Tracing v f (take (length trail - n) (drop n trail)) after r p → read_back r (put_mid n (length trail - n) trail after) (n + 3) ≡ p
 read_is {after = after} {r = r} {p = p} trail n room t =

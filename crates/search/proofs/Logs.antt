@@ -31,10 +31,8 @@ words_push (q ∷ ps) p = ap (λ (xs : List ℕ). path_words q ++ xs) (words_pus
 behind : (xs ys before trail : List ℕ) (n m : ℕ) → n ≡ length xs → trail ≡ xs ++ drop n before → m ≡ n + length ys → take n trail ++ (ys ++ drop m trail) ≡ (xs ++ ys) ++ drop m before
 behind xs ys before trail n m is begins more =
     let k = length ys in
-    let first : take n trail ≡ xs = ap (take n) begins ∙ take_at xs (drop n before) n (sym is) in
-    let rest : drop m trail ≡ drop m before =
-    ap (λ (i : ℕ). drop i trail) more ∙ sym (drop-drop k n trail) ∙ ap (λ (zs : List ℕ). drop k (drop n zs)) begins ∙ ap (drop k) (drop_at xs (drop n before) n (sym is)) ∙ drop-drop k n before ∙ ap (λ (i : ℕ). drop i before) (sym more) in
-    ap (λ (zs : List ℕ). zs ++ (ys ++ drop m trail)) first ∙ ap (λ (zs : List ℕ). xs ++ (ys ++ zs)) rest ∙ sym (append_assoc xs ys (drop m before))
+    let rest : drop m trail ≡ drop m before = rw (more, ← drop-drop k n trail, begins, drop_at xs (drop n before) n (sym is), drop-drop k n before) in
+    rw (rest, begins, take_at xs (drop n before) n (sym is), append_assoc)
 
 -- a trail is as long as before
 pub trail_length : {v w : Net} {before after : List ℕ} {log : Log} {ps : List Path} → Logged v w before after log ps → length after ≡ length before

@@ -1,5 +1,5 @@
 -- Runs in a row: what they gained is what every selection costs less, and a finished one has gained the cheapest cost.
-use Rattle.std.proofs.Common.{◌≡◌, ℕ, ◌+◌, ◌<◌, ◌≤◌, List, [], ◌∷◌, get_or, Ok, Err, Result, sym, refl, ap, ◌∙◌, subst, arith}
+use Rattle.std.proofs.Common.{◌≡◌, ℕ, ◌+◌, ◌<◌, ◌≤◌, List, [], ◌∷◌, get_or, Ok, Err, Result, refl, ap, ◌∙◌, subst, arith}
 use Rattle.network.specs.declared.mark.Mark.{Mark}
 use Rattle.network.specs.Nets.{Graph, Net, Lawful}
 use Rattle.network.specs.Cuts.{CheapestCost, Marked}

@@ -1,5 +1,5 @@
 -- The loop that plants the trees: what holds before each node.
-use Rattle.std.proofs.Common.{◌≡◌, ℕ, ◌+◌, ◌<◌, ◌≤◌, true, false, [], Some, None, sym, refl, ◌∙◌, inl, inr, ⊎_elim, arith}
+use Rattle.std.proofs.Common.{◌≡◌, ℕ, ◌+◌, ◌<◌, ◌≤◌, true, false, [], Some, None, sym, refl, ◌∙◌, inl, inr, arith}
 use Rattle.std.proofs.lemmas.Bool.{cases_eq}
 use Rattle.std.proofs.lemmas.Bool.Decides.{nat_tests}
 use Rattle.network.specs.declared.terminal.Terminal.{Terminal}
@@ -13,7 +13,6 @@ use Rattle.trees.specs.Trees.{Trees}
 use Rattle.trees.specs.Trees.Climb.{here}
 use Rattle.trees.specs.Surveys.{StagesBelow}
 use Rattle.trees.specs.Plantings.{Apart, root_tree}
-use Rattle.trees.proofs.Points.{at_here, at_else}
 
 -- the nodes below k are planted and the others are free; those in a tree are roots and wait; no node is an orphan or carries a stage
 pub record Planting (v : Net) (k : ℕ) (f : Forest) : Type 0 where
