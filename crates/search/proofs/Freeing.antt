@@ -1,6 +1,6 @@
 -- The loop that lets go of the neighbours of an orphan, before it becomes free: what holds before each place.
 use Rattle.std.proofs.Common.{◌≡◌, ℕ, ◌+◌, ◌<◌, true, ltb, Some, None, Option, sym, refl, ap, ◌∙◌, arith}
-use Rattle.std.proofs.lemmas.Bool.{cond_both, ltb-false}
+use Rattle.std.proofs.lemmas.Bool.{cond_both}
 use Rattle.std.proofs.lemmas.Bool.Decides.{nat_tests}
 use Rattle.std.specs.List.{slice_get}
 use Rattle.network.specs.declared.terminal.Terminal.{Terminal}
@@ -14,7 +14,7 @@ use Rattle.trees.specs.Trees.{Anchored, Branch, Trees, is_of}
 use Rattle.trees.specs.Surveys.{SurveyKept}
 use Rattle.trees.specs.Searches.{TreesBut}
 use Rattle.trees.specs.Carryings.{disowned}
-use Rattle.trees.proofs.Points.{at_here, at_twice, at_more}
+use Rattle.trees.proofs.Points.{at_twice, at_more}
 use Rattle.trees.proofs.Places.{Through, through_all}
 use Rattle.trees.proofs.Hanging.{cut_along}
 use Rattle.trees.proofs.Changes.{requeue_trees, orphan_trees, free_trees}
@@ -81,9 +81,7 @@ woken_tree : (v : Net) (h : Neighbour) (f : Forest) → (woken v h f).tree ≡ f
 woken_tree v h f = cond_both (ltb 0 (v.residual h.inward)) (with_queued f Waiting h.node true) f (λ g. g.tree ≡ f.tree) (λ _. refl) (λ _. refl)
 
 woken_waits : (v : Net) (h : Neighbour) (f : Forest) → 0 < v.residual h.inward → (woken v h f).queued Waiting h.node ≡ true
-woken_waits v h f some = cond_both (ltb 0 (v.residual h.inward)) (with_queued f Waiting h.node true) f (λ g. g.queued Waiting h.node ≡ true)
-    (λ _. at_here (f.queued Waiting) h.node true h.node refl)
-    (λ none. absurd (omega (arith, ltb-false 0 (v.residual h.inward) none)))
+woken_waits v h f some = grind (arith, nat_tests)
 
 -- the neighbour at this place has been let go
 freeing_more : (v : Net) (t : Terminal) (u k : ℕ) (h : Neighbour) (before f : Forest) → Lawful v → Freeing v t u k before f → Beside v.graph t u k h → Freeing v t u (k + 1) before (released v t h f)

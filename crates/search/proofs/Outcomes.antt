@@ -1,5 +1,5 @@
 -- How a run ends: refused, paused or finished.
-use Rattle.std.proofs.Common.{◌≡◌, ℕ, ◌≤◌, List, ◌++◌, length, take, drop, None, ap, ◌∙◌, subst, arith}
+use Rattle.std.proofs.Common.{◌≡◌, ℕ, ◌≤◌, List, ◌++◌, length, take, drop, None, ap, ◌∙◌, arith}
 use Rattle.std.proofs.lemmas.List.{length-append, length-drop, drop_at, get_or_append_left, take-append-drop}
 use Rattle.std.proofs.lemmas.Bool.Decides.{nat_tests}
 use Rattle.network.specs.declared.terminal.Terminal.TheVariants.{Source, Sink}
@@ -57,6 +57,6 @@ ran v w before r part trail bytes ps m l is records room long wide logged end = 
       marks_of v v.graph.nodes (bytes ++ drop m before.marks) l (λ u there. (
         mark_by (tree_nodes f Source u) (tree_nodes f Sink u),
         get_or_append_left bytes (drop m before.marks) 0 u (omega arith) ∙ marked u (omega (arith, nodes)),
-        (finished v ps (tree_nodes f) l logged.successive (subst (λ (x : Net). Separate x (tree_nodes f)) logged.value apart)).1 u there,
+        (finished v ps (tree_nodes f) l logged.successive (rw (← logged.value) apart)).1 u there,
       )),
     )

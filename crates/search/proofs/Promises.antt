@@ -10,9 +10,8 @@ use Rattle.network.proofs.Carrying.{paths_lower, few_paths}
 use Rattle.network.proofs.Extremes.{constant_apart}
 use Rattle.network.proofs.Duality.{max_flow_min_cut, one_mark}
 use Rattle.search.specs.declared.refusal.RunRefusal.{RunRefusal}
-use Rattle.search.specs.declared.report.Outcome.{Outcome}
 use Rattle.search.specs.declared.report.Report.{Report}
-use Rattle.search.specs.Runs.{Lent, MarksOf, Stopped, Run, Runs, gained, counted, Concluded, Promise}
+use Rattle.search.specs.Runs.{Lent, MarksOf, Run, Runs, gained, counted, Concluded, Promise}
 use Rattle.search.specs.Runs.Runs.{none, then}
 
 -- what is gained is what every selection costs less, and paths are never more than that
@@ -71,7 +70,7 @@ marks_of v n marks l mark = record {
 -- a finished run, after others, gained the rest of the cheapest cost at handing over
 concluded : (v w : Net) (g k : ℕ) (before : Lent) (r : Report) (x : Net) (after : Lent) → Lower v g k w → (run : Run w before (Ok r) x after) → Lower v (g + r.log.gain) (k + r.log.paths) x → Concluded v (g + r.log.gain) (Ok r) after
 concluded v w g k before r x after so_far (_, ps, ran) all finished =
-    let (no_path, marks) = subst (λ (o : Outcome). Stopped o w x before after r.log.words) finished ran.stopped in
+    let (no_path, marks) = rw finished at ran.stopped in
     let cheapest : CheapestCost v (g + r.log.gain) = subst (CheapestCost v) (omega arith) ((constant_apart v x (g + r.log.gain) all.lowered.costs).costs 0 (nothing_left x all.lowered.lawful no_path)) in
     let same = ap (λ (h : Graph). h.nodes) so_far.lowered.graph in (
       cheapest,

@@ -14,7 +14,7 @@ use Rattle.trees.specs.Trees.Climb.{here, up}
 
 -- a node's parent arc, whichever way its ends were told
 pub branch_at : (v : Net) (f : Forest) (t : Terminal) (u a : ℕ) (e : Ends) → (d : Ends) × Branch v f t u a d → v.graph.ends a ≡ Some e → Branch v f t u a e
-branch_at v f t u a e (d, b) is = subst (Branch v f t u a) (one_ends v.graph a d e b.ends is) b
+branch_at v f t u a e (d, b) is = rw (← one_ends v.graph a d e b.ends is) b
 
 -- a node's parent arc is there
 pub branch_there : {v : Net} {f : Forest} {t : Terminal} {u a : ℕ} → (e : Ends) × Branch v f t u a e → There v.graph a

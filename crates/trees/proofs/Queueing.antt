@@ -1,5 +1,5 @@
 -- Both queues hold what they say, with a node put into one of them and with the first picked from it.
-use Rattle.std.proofs.Common.{◌≡◌, ℕ, ◌+◌, ◌-◌, ◌<◌, Bool, true, false, sym, refl, subst, subst₂, arith}
+use Rattle.std.proofs.Common.{◌≡◌, ℕ, ◌+◌, ◌-◌, ◌<◌, Bool, true, false, refl, subst, arith}
 use Rattle.network.specs.Nets.{at}
 use Rattle.trees.specs.declared.lane.Lanes.{Lanes}
 use Rattle.trees.specs.declared.ring.Ring.{Ring}
@@ -46,7 +46,7 @@ none_queued f slot q l sound none = let held = sound l in tally_none f.size (f.q
 
 -- a table and rings that mean the same
 pub sound_is : {f g : Forest} {slot places : Lane → ℕ → ℕ} {q r : Lanes Ring} → f ≡ g → slot ≡ places → q ≡ r → Sound g places r → Sound f slot q
-sound_is {f = f} {g = g} {slot = slot} {places = places} {q = q} {r = r} forests slots rings sound = subst (λ (x : Lanes Ring). Sound f slot x) (sym rings) (subst₂ (λ (x : Forest) (y : Lane → ℕ → ℕ). Sound x y r) (sym forests) (sym slots) sound)
+sound_is forests slots rings sound = rw (forests, slots, rings) sound
 
 -- there is a place for a node that is not queued
 pub put_room : (f : Forest) (slot : Lane → ℕ → ℕ) (q : Lanes Ring) (l : Lane) (u : ℕ) → Sound f slot q → u < f.size → f.queued l u ≡ false → (lane_of l q).count < f.size

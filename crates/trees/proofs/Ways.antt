@@ -1,5 +1,5 @@
 -- The loop that sends an amount along the arcs of a way: what holds before each arc.
-use Rattle.std.proofs.Common.{◌≡◌, ℕ, suc, ◌+◌, ◌<◌, ◌≤◌, List, ◌∷◌, length, get_or, drop, sym, refl, ap, ◌∙◌, subst}
+use Rattle.std.proofs.Common.{◌≡◌, ℕ, suc, ◌+◌, ◌<◌, ◌≤◌, List, ◌∷◌, length, get_or, drop, refl, subst}
 use Rattle.std.proofs.lemmas.List.{drop_more}
 use Rattle.network.specs.Nets.{Net, Lawful, Distinct, shifted}
 use Rattle.network.specs.Paths.{Path, passed, Augmenting, shifted_along}
@@ -57,6 +57,6 @@ sending_more {v₁ = v₁} {arcs = arcs} {x = x} {i = i} {v = v} {f = f} {f' = f
     let more = drop (i + 1) arcs in
     record {
       trees = h;
-      whole = ap (λ (y : Net). shifted_along y more x) value ∙ sym (ap (λ (ys : List ℕ). shifted_along v ys x) (drop_more arcs i 0 inside)) ∙ s.whole;
+      whole = rw value (rw (drop_more arcs i 0 inside) at s.whole);
       way = rw value (way_rest v f f' a x more l same (way_here v₁ arcs x i v f inside s));
     }
