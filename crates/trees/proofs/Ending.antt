@@ -45,7 +45,7 @@ separate v f l h asleep adopted = record {
         top;
     complete = λ u r. held t u r;
   };
-  apart = λ u there first second. cc (is_of_some (f.tree u) Source first, is_of_some (f.tree u) Sink second);
+  apart = λ u there first second. cc (is_of_some (f.tree u) Sink second);
 }
   where
     inside : (t : Terminal) (u : ℕ) → Reached v t u → f.tree u ≡ Some t
