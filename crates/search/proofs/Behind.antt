@@ -1,16 +1,16 @@
 -- The words of a path written behind those of the log.
-use Rattle.std.proofs.Common.{◌≡◌, ℕ, ◌+◌, ◌-◌, ◌<◌, ◌≤◌, min, List, [], ◌∷◌, ◌++◌, length, take, drop, set, sym, refl, ap, ◌∙◌, subst, ⊎_elim, arith}
+use Rattle.std.proofs.Common.{◌≡◌, ℕ, ◌+◌, ◌-◌, ◌<◌, ◌≤◌, min, List, [], ◌∷◌, ◌++◌, length, take, drop, set, sym, ap, ◌∙◌, ⊎_elim, arith}
 use borrow.Rule.Slice.PartMut.{put_mid}
 use Rattle.std.proofs.lemmas.List.{append_assoc, length-append, length-take-le, take-append-drop}
 use Rattle.std.proofs.lemmas.Bool.{cases_eq, cases_lt}
+use Rattle.std.proofs.lemmas.Bool.Decides.{nat_tests}
 use Rattle.network.specs.declared.terminal.Terminal.TheVariants.{Source, Sink}
 use Rattle.network.specs.Nets.{Net}
 use Rattle.network.specs.Paths.{Augmenting, carried}
 use Rattle.network.proofs.Lists.{distinct_one}
 use Rattle.trees.specs.Plantings.{ApartBelow}
 use Rattle.trees.specs.Climbs.{Written}
-use Rattle.trees.proofs.Points.{at_here, at_else}
-use Rattle.trees.proofs.Writing.{written_part}
+use Rattle.trees.proofs.Writing.{three, written_part}
 use Rattle.search.specs.Trails.{node_path}
 
 -- what is written over the part from n on stands behind the first n words
@@ -23,10 +23,7 @@ put_behind trail part ys n room w =
     written_part trail trail part xs ys n long whole w ∙ append_assoc xs ys (drop (length (xs ++ ys)) trail) ∙ ap (λ (k : ℕ). xs ++ (ys ++ drop k trail)) last
 
 pub set_three : (before : List ℕ) (a b c : ℕ) → 3 ≤ length before → Written before (set (set (set before 0 a) 1 b) 2 c) (a ∷ b ∷ c ∷ [])
-set_three [] a b c room = absurd (omega arith)
-set_three (x ∷ []) a b c room = absurd (omega arith)
-set_three (x ∷ y ∷ []) a b c room = absurd (omega arith)
-set_three (x ∷ y ∷ z ∷ more) a b c room = refl
+set_three before a b c room = let (x, y, z, more, is) = three before room in rw is
 
 -- a node with residuals at both terminals is a path
 pub single : (v : Net) (u x : ℕ) → u < v.graph.nodes → 0 < x → x ≡ min (v.terminal Source u) (v.terminal Sink u) → Augmenting v (node_path u x)
@@ -46,12 +43,7 @@ single v u x there some least = record {
 
 -- the paths of single nodes, one node further
 pub apart_more : (v : Net) (k : ℕ) → ApartBelow v k → (0 < v.terminal Source k → 0 < v.terminal Sink k → ⊥) → ApartBelow v (k + 1)
-apart_more v k apart this u below some more = ⊎_elim
-    (λ (is : u ≡ k). this (subst (λ (w : ℕ). 0 < v.terminal Source w) is some) (subst (λ (w : ℕ). 0 < v.terminal Sink w) is more))
-    (λ (other : u ≡ k → ⊥). apart u (omega arith) some more)
-    (cases_eq u k)
+apart_more v k apart this u below some more = grind (arith, cases_eq u k, apart u, this)
 
 pub apart_passed : (v w : Net) (k x : ℕ) → ApartBelow v k → x ≡ min (v.terminal Source k) (v.terminal Sink k) → w ≡ carried v (node_path k x) → ApartBelow w (k + 1)
-apart_passed v w k x apart least is = subst (λ (y : Net). ApartBelow y (k + 1)) (sym is) (apart_more (carried v (node_path k x)) k
-    (λ u below some more. apart u below (subst (λ (r : ℕ). 0 < r) (at_else (v.terminal Source) k _ u (λ same. omega arith)) some) (subst (λ (r : ℕ). 0 < r) (at_else (v.terminal Sink) k _ u (λ same. omega arith)) more))
-    (λ some more. omega (arith, at_here (v.terminal Source) k (v.terminal Source k - x) k refl, at_here (v.terminal Sink) k (v.terminal Sink k - x) k refl)))
+apart_passed v w k x apart least is = rw is (apart_more (carried v (node_path k x)) k (λ u below some more. grind (arith, nat_tests, apart u)) (λ some more. grind (arith, nat_tests)))

@@ -1,25 +1,25 @@
 -- The loop that lets go of the neighbours of an orphan, before it becomes free: what holds before each place.
-use Rattle.std.proofs.Common.{◌≡◌, ℕ, ◌+◌, ◌<◌, Bool, true, cond, ltb, Some, None, Option, sym, refl, ap, ◌∙◌, subst, arith}
-use Rattle.std.proofs.lemmas.Bool.{ltb-false, both_ways}
+use Rattle.std.proofs.Common.{◌≡◌, ℕ, ◌+◌, ◌<◌, true, ltb, Some, None, Option, sym, refl, ap, ◌∙◌, arith}
+use Rattle.std.proofs.lemmas.Bool.{cond_both}
+use Rattle.std.proofs.lemmas.Bool.Decides.{nat_tests}
 use Rattle.std.specs.List.{slice_get}
 use Rattle.network.specs.declared.terminal.Terminal.{Terminal}
 use Rattle.network.specs.Nets.{Ends, Net, Lawful, reversed}
 use Rattle.network.specs.Sides.{near, far}
 use Rattle.network.proofs.Laws.{near_reversed, far_reversed}
-use Rattle.trees.specs.declared.lane.Lane.{Lane}
 use Rattle.trees.specs.declared.lane.Lane.TheVariants.{Waiting, Orphans}
 use Rattle.trees.specs.declared.work.Parent.TheVariants.{Orphan, Along}
 use Rattle.trees.specs.Forests.{Forest, with_tree, with_queued, orphaned}
 use Rattle.trees.specs.Trees.{Anchored, Branch, Trees, is_of}
 use Rattle.trees.specs.Surveys.{SurveyKept}
 use Rattle.trees.specs.Searches.{TreesBut}
-use Rattle.trees.specs.Carryings.{is_along, disowned}
-use Rattle.trees.proofs.Points.{at_here, at_else, at_twice, at_more, one_tree, along_orphan, either}
+use Rattle.trees.specs.Carryings.{disowned}
+use Rattle.trees.proofs.Points.{at_twice, at_more}
 use Rattle.trees.proofs.Places.{Through, through_all}
 use Rattle.trees.proofs.Hanging.{cut_along}
 use Rattle.trees.proofs.Changes.{requeue_trees, orphan_trees, free_trees}
 use Rattle.trees.proofs.Anchors.{anchored_above, orphan_loose, survey_queued, survey_orphaned, survey_freed}
-use Rattle.trees.proofs.Disowning.{along_is, disowned_here, disowned_waits}
+use Rattle.trees.proofs.Disowning.{each_way, disowned_here, disowned_waits}
 use Rattle.trees.proofs.Ending.{is_of_true, is_of_some}
 use Rattle.search.specs.declared.reading.Neighbour.{Neighbour}
 use Rattle.search.specs.Readings.{Beside}
@@ -41,9 +41,8 @@ pub record Freeing (v : Net) (t : Terminal) (u k : ℕ) (before f : Forest) : Ty
 -- a node waits
 freeing_woken : (v : Net) (t : Terminal) (u k w : ℕ) (before f : Forest) → Freeing v t u k before f → Freeing v t u k before (with_queued f Waiting w true)
 freeing_woken v t u k w before f h =
-    let f' = with_queued f Waiting w true in
     record {
-      trees = requeue_trees v (with_queued f Orphans u true) (with_queued f' Orphans u true).queued (λ y x. elim y as (λ (y : Lane). (with_queued f Orphans u true).queued y x ≡ true → (with_queued f' Orphans u true).queued y x ≡ true) [ Waiting ↦ at_more (f.queued Waiting) w x | Orphans ↦ λ is. is ]) h.trees;
+      trees = requeue_trees v (with_queued f Orphans u true) _ (at_more (f.queued Waiting) w) (λ _ is. is) h.trees;
       same = h.same;
       mine = h.mine;
       alone = h.alone;
@@ -54,42 +53,35 @@ freeing_woken v t u k w before f h =
 -- a child loses its parent
 freeing_orphaned : (v : Net) (t : Terminal) (u k c a : ℕ) (e : Ends) (before f : Forest) → Lawful v → Freeing v t u k before f → f.parent c ≡ Along a → f.tree c ≡ Some t → v.graph.ends a ≡ Some e → near t e ≡ u → Freeing v t u k before (orphaned f c)
 freeing_orphaned v t u k c a e before f l h hangs child is from =
-    let f' = orphaned f c in
-    let apart : u ≡ c → ⊥ = λ one. along_orphan (f.parent c) a hangs (ap f.parent (sym one) ∙ h.alone) in
     let loose : (y : Terminal) → f.tree c ≡ Some y → Anchored v.graph f.parent y c → ⊥ = λ y in_tree anchored.
-    let side : y ≡ t = one_tree (f.tree c) y t in_tree child in
-    orphan_loose v.graph f.parent t u h.alone (subst (Anchored v.graph f.parent t) from (anchored_above v.graph f.parent t c a e hangs is (subst (λ (z : Terminal). Anchored v.graph f.parent z c) side anchored))) in
+    let side : y ≡ t = cc in
+    orphan_loose v.graph f.parent t u h.alone (rw (← from) (anchored_above v.graph f.parent t c a e hangs is (rw side at anchored))) in
     record {
-      trees = requeue_trees v (orphaned (with_queued f Orphans u true) c) (with_queued f' Orphans u true).queued (λ y x. elim y as (λ (y : Lane). (orphaned (with_queued f Orphans u true) c).queued y x ≡ true → (with_queued f' Orphans u true).queued y x ≡ true) [ Waiting ↦ λ is. is | Orphans ↦ at_twice (f.queued Orphans) u c x ]) (orphan_trees v (with_queued f Orphans u true) c a h.trees hangs);
+      trees = requeue_trees v (orphaned (with_queued f Orphans u true) c) _ (λ _ is. is) (at_twice (f.queued Orphans) u c) (orphan_trees v (with_queued f Orphans u true) c a h.trees hangs);
       same = h.same;
       mine = h.mine;
-      alone = at_else f.parent c Orphan u apart ∙ h.alone;
+      alone = grind (arith, nat_tests, h.alone);
       survey = λ stage s. survey_orphaned v f stage c l (h.survey stage s) loose;
       seen = λ j b d below at_b out place in_tree.
           let (waits, old) = h.seen j b d below at_b out place in_tree in
           (waits, λ now. old (cut_along f.parent c (far t d) b now));
     }
 
-pub released_inside : (v : Net) (t : Terminal) (h : Neighbour) (f : Forest) → true ≡ is_of (f.tree h.node) t → disowned (woken v h f) h.node h.outward ≡ released v t h f
-released_inside v t h f is = ap (λ (b : Bool). cond b (disowned (woken v h f) h.node h.outward) f) is
-
 -- f where a neighbour waits, if something can be sent from it
 freeing_wakes : (v : Net) (t : Terminal) (u k : ℕ) (h : Neighbour) (before f : Forest) → Freeing v t u k before f → Freeing v t u k before (woken v h f)
-freeing_wakes v t u k h before f s = either (Freeing v t u k before) (ltb 0 (v.residual h.inward)) (with_queued f Waiting h.node true) f (λ _. freeing_woken v t u k h.node before f s) (λ _. s)
+freeing_wakes v t u k h before f s = cond_both (ltb 0 (v.residual h.inward)) (with_queued f Waiting h.node true) f (Freeing v t u k before) (λ _. freeing_woken v t u k h.node before f s) (λ _. s)
 
 -- and is an orphan, if it hung from the node
 freeing_disowns : (v : Net) (t : Terminal) (u k : ℕ) (h : Neighbour) (before f : Forest) → Lawful v → Freeing v t u k before f → Beside v.graph t u k h → f.tree h.node ≡ Some t → Freeing v t u k before (disowned f h.node h.outward)
-freeing_disowns v t u k h before f l s b child = either (Freeing v t u k before) (is_along (f.parent h.node) h.outward) (orphaned f h.node) f
-    (λ is. freeing_orphaned v t u k h.node h.outward b.ends before f l s (along_is (f.parent h.node) h.outward is) child b.out b.from)
+freeing_disowns v t u k h before f l s b child = each_way (Freeing v t u k before) f h.node h.outward
+    (λ hangs. freeing_orphaned v t u k h.node h.outward b.ends before f l s hangs child b.out b.from)
     (λ _. s)
 
 woken_tree : (v : Net) (h : Neighbour) (f : Forest) → (woken v h f).tree ≡ f.tree
-woken_tree v h f = either (λ (g : Forest). g.tree ≡ f.tree) (ltb 0 (v.residual h.inward)) (with_queued f Waiting h.node true) f (λ _. refl) (λ _. refl)
+woken_tree v h f = cond_both (ltb 0 (v.residual h.inward)) (with_queued f Waiting h.node true) f (λ g. g.tree ≡ f.tree) (λ _. refl) (λ _. refl)
 
 woken_waits : (v : Net) (h : Neighbour) (f : Forest) → 0 < v.residual h.inward → (woken v h f).queued Waiting h.node ≡ true
-woken_waits v h f some = either (λ (g : Forest). g.queued Waiting h.node ≡ true) (ltb 0 (v.residual h.inward)) (with_queued f Waiting h.node true) f
-    (λ _. at_here (f.queued Waiting) h.node true h.node refl)
-    (λ none. absurd (omega (arith, ltb-false 0 (v.residual h.inward) none)))
+woken_waits v h f some = grind (arith, nat_tests)
 
 -- the neighbour at this place has been let go
 freeing_more : (v : Net) (t : Terminal) (u k : ℕ) (h : Neighbour) (before f : Forest) → Lawful v → Freeing v t u k before f → Beside v.graph t u k h → Freeing v t u (k + 1) before (released v t h f)
@@ -103,28 +95,25 @@ freeing_more v t u k h before f l s b =
       survey = s.survey;
       seen = through_more v.graph t u k h (Loose v g t) l.graph b s.seen loose;
     } in
-    either (Freeing v t u (k + 1) before) (is_of (f.tree w) t) (disowned (woken v h f) w h.outward) f
+    cond_both (is_of (f.tree w) t) (disowned (woken v h f) w h.outward) f (Freeing v t u (k + 1) before)
     (λ is.
     let child : (woken v h f).tree w ≡ Some t = ap (λ (T : ℕ → Option Terminal). T w) (woken_tree v h f) ∙ is_of_some (f.tree w) t is in
     let g = disowned (woken v h f) w h.outward in
     on g (freeing_disowns v t u k h before (woken v h f) l (freeing_wakes v t u k h before f s) b child)
-    (subst (λ (x : ℕ). g.tree x ≡ Some t → (0 < v.residual b.ends.reverse → g.queued Waiting x ≡ true) × (g.parent x ≡ Along h.outward → ⊥)) (sym b.to)
-    (λ _. (λ some. disowned_waits (woken v h f) w h.outward w (woken_waits v h f (subst (λ (x : ℕ). 0 < v.residual x) b.back some)), disowned_here (woken v h f) w h.outward))))
-    (λ is. on f s (λ in_tree. absurd (both_ways (is_of (f.tree w) t) is (ap (λ (o : Option Terminal). is_of o t) (ap f.tree (sym b.to) ∙ in_tree) ∙ is_of_true t))))
+    (λ _. rw b.to (λ some. disowned_waits (woken v h f) w h.outward w (woken_waits v h f (rw (← b.back) some)), disowned_here (woken v h f) w h.outward)))
+    (λ is. on f s (λ in_tree. cc (b.to, is_of_true t)))
 
-pub freeing_after : (v : Net) (t : Terminal) (u k : ℕ) (h : Neighbour) (before f f' : Forest) → Lawful v → Freeing v t u k before f → Beside v.graph t u k h → f' ≡ released v t h f → Freeing v t u (k + 1) before f'
-freeing_after v t u k h before f f' l s b is = subst (Freeing v t u (k + 1) before) (sym is) (freeing_more v t u k h before f l s b)
+pub freeing_after : {v : Net} {t : Terminal} {u k : ℕ} {h : Neighbour} {before f f' : Forest} → Lawful v → Freeing v t u k before f → Beside v.graph t u k h → f' ≡ released v t h f → Freeing v t u (k + 1) before f'
+freeing_after l s b is = rw is (freeing_more _ _ _ _ _ _ _ l s b)
 
 -- what the end of the loop needs to free the node
-pub freeing_ends : (v : Net) (t : Terminal) (u k : ℕ) (before f : Forest) → Lawful v → Freeing v t u k before f → slice_get (v.graph.arcs u) k ≡ None → Trees v (with_tree f u None) × SurveyKept v before (with_tree f u None)
-freeing_ends v t u k before f l s past =
+pub freeing_ends : {v : Net} {t : Terminal} {u k : ℕ} {before f : Forest} → Lawful v → Freeing v t u k before f → slice_get (v.graph.arcs u) k ≡ None → Trees v (with_tree f u None) × SurveyKept v before (with_tree f u None)
+freeing_ends {v = v} {t = t} {u = u} {k = k} {f = f} l s past =
     let all = through_all v.graph t u k (Loose v f t) l.graph past s.seen in
     let childless : (y : Terminal) (x b : ℕ) (d : Ends) → Branch v f y x b d → f.tree x ≡ Some y → f.parent x ≡ Along b → near y d ≡ u → ⊥ = λ y x b d br in_tree hangs from.
-    let side : y ≡ t = one_tree (f.tree u) y t (ap f.tree (sym from) ∙ br.same_tree) s.mine in
-    let out : near t d ≡ u = subst (λ (z : Terminal). near z d ≡ u) side from in
-    let to : far t d ≡ x = subst (λ (z : Terminal). far z d ≡ x) side br.child in
-    let (_, loose) = all b d br.ends out (ap f.tree to ∙ in_tree ∙ ap (λ (z : Terminal). Some z) side) in
-    loose (ap f.parent to ∙ hangs) in
+    let side : y ≡ t = cc in
+    let (_, loose) = all b d br.ends (rw side at from) (cc) in
+    loose (cc) in
     let woken_up : (b : ℕ) (d : Ends) → Branch v f t u b d → f.queued Waiting (near t d) ≡ true = λ b d br.
     let e = reversed b d in
     let out = near_reversed t b d ∙ br.child in

@@ -1,5 +1,5 @@
 -- One path more in the log.
-use Rattle.std.proofs.Common.{◌≡◌, ℕ, zero, suc, ◌+◌, ◌*◌, ◌^◌, ◌<◌, ◌≤◌, Bool, false, cond, List, [], ◌∷◌, ◌++◌, length, take, drop, Some, None, Option, sym, refl, ap, ◌∙◌, subst, arith}
+use Rattle.std.proofs.Common.{◌≡◌, ℕ, zero, suc, ◌+◌, ◌*◌, ◌^◌, ◌<◌, ◌≤◌, Bool, false, cond, List, [], ◌∷◌, ◌++◌, length, take, drop, Some, None, Option, sym, refl, ap, ◌∙◌, arith}
 use Rattle.std.proofs.lemmas.List.{append-nil, append_assoc, length-append, length-drop, take_at, drop_at, drop-drop}
 use Rattle.network.specs.declared.terminal.Terminal.TheVariants.{Sink}
 use Rattle.network.specs.Nets.{Ends, Graph, Net, Lawful}
@@ -31,28 +31,26 @@ words_push (q ∷ ps) p = ap (λ (xs : List ℕ). path_words q ++ xs) (words_pus
 behind : (xs ys before trail : List ℕ) (n m : ℕ) → n ≡ length xs → trail ≡ xs ++ drop n before → m ≡ n + length ys → take n trail ++ (ys ++ drop m trail) ≡ (xs ++ ys) ++ drop m before
 behind xs ys before trail n m is begins more =
     let k = length ys in
-    let first : take n trail ≡ xs = ap (take n) begins ∙ take_at xs (drop n before) n (sym is) in
-    let rest : drop m trail ≡ drop m before =
-    ap (λ (i : ℕ). drop i trail) more ∙ sym (drop-drop k n trail) ∙ ap (λ (zs : List ℕ). drop k (drop n zs)) begins ∙ ap (drop k) (drop_at xs (drop n before) n (sym is)) ∙ drop-drop k n before ∙ ap (λ (i : ℕ). drop i before) (sym more) in
-    ap (λ (zs : List ℕ). zs ++ (ys ++ drop m trail)) first ∙ ap (λ (zs : List ℕ). xs ++ (ys ++ zs)) rest ∙ sym (append_assoc xs ys (drop m before))
+    let rest : drop m trail ≡ drop m before = rw (more, ← drop-drop k n trail, begins, drop_at xs (drop n before) n (sym is), drop-drop k n before) in
+    rw (rest, begins, take_at xs (drop n before) n (sym is), append_assoc)
 
 -- a trail is as long as before
-pub trail_length : (v w : Net) (before after : List ℕ) (log : Log) (ps : List Path) → Logged v w before after log ps → length after ≡ length before
-trail_length v w before after log ps h =
+pub trail_length : {v w : Net} {before after : List ℕ} {log : Log} {ps : List Path} → Logged v w before after log ps → length after ≡ length before
+trail_length {before = before} {log = log} {ps = ps} h =
     omega (arith, ap length h.trail, length-append (trail_words ps) (drop log.words before), length-drop log.words before, h.words, h.fits)
 
-pub logged_more : (v w x : Net) (before trail after : List ℕ) (log more : Log) (ps : List Path) (p : Path) → Logged v w before trail log ps → Further w x trail after log more p → Logged v x before after more (ps ++ p ∷ [])
-logged_more v w x before trail after log more ps p h new =
+pub logged_more : {v w x : Net} {before trail after : List ℕ} {log more : Log} {ps : List Path} {p : Path} → Logged v w before trail log ps → Further w x trail after log more p → Logged v x before after more (ps ++ p ∷ [])
+logged_more {v = v} {before = before} {trail = trail} {log = log} {more = more} {ps = ps} {p = p} h new =
     let paths = ap (λ (l : Log). l.paths) new.log in
     let gains = ap (λ (l : Log). l.gain) new.log in
     let words = ap (λ (l : Log). l.words) new.log in
     record {
-      successive = successive_push v ps p h.successive (subst (λ (y : Net). Augmenting y p) h.value new.augmenting);
+      successive = successive_push v ps p h.successive (rw (← h.value) new.augmenting);
       value = new.value ∙ ap (λ (y : Net). carried y p) h.value ∙ sym (carried_push v ps p);
       paths = omega (arith, paths, h.paths, length-append ps (p ∷ []));
       gain = omega (arith, gains, h.gain, gain_push ps p);
       words = omega (arith, words, h.words, ap length (words_push ps p), length-append (trail_words ps) (path_words p));
-      fits = omega (arith, new.fits, trail_length v w before trail log ps h);
+      fits = omega (arith, new.fits, trail_length h);
       trail = new.trail ∙ behind (trail_words ps) (path_words p) before trail log.words more.words h.words h.trail words ∙ ap (λ (xs : List ℕ). xs ++ drop more.words before) (sym (words_push ps p));
     }
 
@@ -72,8 +70,8 @@ dear v l =
     let arcs = sum_zero 32768 (arc_cost v everything) (λ a _. ap (λ (b : Bool). cond b (v.residual a) 0) (everything_left (v.graph.ends a))) in
     omega (arith, l.graph.few_nodes)
 
-pub logged_bounded : (v w : Net) (before after : List ℕ) (log : Log) (ps : List Path) → Lawful v → Logged v w before after log ps → Bounded w log
-logged_bounded v w before after log ps l h =
+pub logged_bounded : {v w : Net} {before after : List ℕ} {log : Log} {ps : List Path} → Lawful v → Logged v w before after log ps → Bounded w log
+logged_bounded {v = v} {ps = ps} l h =
     let lower = paths_lower v ps l h.successive in
     let is = ap (λ (x : Net). cost x everything) h.value in
     record {
@@ -82,8 +80,8 @@ logged_bounded v w before after log ps l h =
     }
 
 -- the graph stays, and so do the laws
-pub logged_lowered : (v w : Net) (before after : List ℕ) (log : Log) (ps : List Path) → Lawful v → Logged v w before after log ps → Lowered v log.gain w
-logged_lowered v w before after log ps l h = subst (λ (x : ℕ). Lowered v x w) (sym h.gain) (subst (Lowered v (gain ps)) (sym h.value) (paths_lower v ps l h.successive))
+pub logged_lowered : {v w : Net} {before after : List ℕ} {log : Log} {ps : List Path} → Lawful v → Logged v w before after log ps → Lowered v log.gain w
+logged_lowered {v = v} {ps = ps} l h = rw (h.gain, h.value) (paths_lower v ps l h.successive)
 
-pub logged_nodes : (v w : Net) (before after : List ℕ) (log : Log) → Lawful v → SomeLogged v w before after log → w.graph.nodes ≡ v.graph.nodes
-logged_nodes v w before after log l (ps, h) = ap (λ (g : Graph). g.nodes) (logged_lowered v w before after log ps l h).graph
+pub logged_nodes : {v w : Net} {before after : List ℕ} {log : Log} → Lawful v → SomeLogged v w before after log → w.graph.nodes ≡ v.graph.nodes
+logged_nodes l (ps, h) = ap (λ (g : Graph). g.nodes) (logged_lowered l h).graph

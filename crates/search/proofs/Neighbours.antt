@@ -1,5 +1,5 @@
 -- A node's neighbours, one place after another.
-use Rattle.std.proofs.Common.{◌≡◌, ℕ, ◌+◌, ◌<◌, Some, None, Ok, sym, refl, ap, ◌∙◌, subst, subst₂, arith}
+use Rattle.std.proofs.Common.{◌≡◌, ℕ, ◌+◌, ◌<◌, Some, None, Ok, sym, refl, ap, ◌∙◌, arith}
 use Rattle.std.specs.List.{slice_get}
 use Rattle.network.specs.declared.terminal.Terminal.{Terminal}
 use Rattle.network.specs.declared.terminal.Terminal.TheVariants.{Source, Sink}
@@ -21,9 +21,7 @@ pub beside : (v : Net) (t : Terminal) (u k a tail head reverse : ℕ) → Lawful
 beside v t u k a tail head reverse l there at answer =
     let (e, is, from) = l.graph.own u k a there at in
     let same : (e.tail, e.head, e.reverse) ≡ (tail, head, reverse) = cc in
-    let heads = ap (λ (x : ℕ × ℕ × ℕ). x.1) same in
-    let backs = ap (λ (x : ℕ × ℕ × ℕ). x.2) same in
-    by t e is from heads backs
+    by t e is from (ap (λ (x : ℕ × ℕ × ℕ). x.1) same) (ap (λ (x : ℕ × ℕ × ℕ). x.2) same)
   where
     by : (t : Terminal) (e : Ends) → v.graph.ends a ≡ Some e → e.tail ≡ u → e.head ≡ head → e.reverse ≡ reverse → Beside v.graph t u k (told t a head reverse)
     by Source e is from heads backs = record { ends = e; out = is; back = backs; from = from; to = heads; place = at }
@@ -39,15 +37,14 @@ pub through_more : (g : Graph) (t : Terminal) (u k : ℕ) (h : Neighbour) (P : �
 through_more g t u k h P l b before this = through_next g t u k h.outward b.ends P l b.out (b.place ∙ ap (λ x. Some x) (placed_standing g t u k h b)) before this
 
 -- what the iterator tells, where it has come to place k
-pub met : {N : Type 0} (value : N → Net) (w : N) (t : Terminal) (u k : ℕ) (s s' : Neighbourhood N) (h : Neighbour) → Stands w t u k s → StepsOn value s (Some h) s' → Beside (value w).graph t u k h × Stands w t u (k + 1) s'
-met {N = N} value w t u k s s' h at (b, on) = (
-  subst₂ (λ (x : N) (y : Terminal). Beside (value x).graph y u k h) at.net at.terminal (subst₂ (λ (x y : ℕ). Beside (value s.net.now).graph s.terminal x y h) at.node at.place b),
-  record { net = on.net ∙ at.net; terminal = on.terminal ∙ at.terminal; node = on.node ∙ at.node; place = on.place ∙ ap (λ (x : ℕ). x + 1) at.place },
+pub met : {N : Type 0} (value : N → Net) {w : N} {t : Terminal} {u k : ℕ} {s s' : Neighbourhood N} {h : Neighbour} → Stands w t u k s → StepsOn value s (Some h) s' → Beside (value w).graph t u k h × Stands w t u (k + 1) s'
+met value at (b, on) = (
+  rw (← at.net, ← at.terminal, ← at.node, ← at.place) b,
+  record { net = on.net ∙ at.net; terminal = on.terminal ∙ at.terminal; node = on.node ∙ at.node; place = cc },
 )
 
-pub passed : {N : Type 0} (value : N → Net) (w : N) (t : Terminal) (u k : ℕ) (s s' : Neighbourhood N) → Stands w t u k s → StepsOn value s None s' → slice_get ((value w).graph.arcs u) k ≡ None
-passed {N = N} value w t u k s s' at (past, _) =
-    subst (λ (x : N). slice_get ((value x).graph.arcs u) k ≡ None) at.net (subst₂ (λ (x y : ℕ). slice_get ((value s.net.now).graph.arcs x) y ≡ None) at.node at.place past)
+pub passed : {N : Type 0} (value : N → Net) {w : N} {t : Terminal} {u k : ℕ} {s s' : Neighbourhood N} → Stands w t u k s → StepsOn value s None s' → slice_get ((value w).graph.arcs u) k ≡ None
+passed value at (past, _) = rw (← at.net, ← at.node, ← at.place) past
 
 -- a neighbour that was told: fewer places are left
 pub goes_on : {N : Type 0} (value : N → Net) (s : Neighbourhood N) (h : Neighbour) (a : ℕ) → HasNode value s → slice_get ((value s.net.now).graph.arcs s.node) s.place ≡ Some a → MakesProgress (HasNode value) (places_left value) s (Some h) (record { net = s.net; terminal = s.terminal; node = s.node; place = s.place + 1 })

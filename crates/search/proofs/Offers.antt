@@ -12,8 +12,8 @@ use Rattle.search.specs.declared.reading.Neighbour.{Neighbour}
 use Rattle.search.specs.Readings.{Beside}
 use Rattle.search.specs.Adoptions.{Inward, Found}
 
-pub beside_inward : (v : Net) (t : Terminal) (u k : ℕ) (h : Neighbour) → Lawful v → Beside v.graph t u k h → Inward v.graph t u h
-beside_inward v t u k h l b =
+pub beside_inward : {v : Net} {t : Terminal} {u k : ℕ} {h : Neighbour} → Lawful v → Beside v.graph t u k h → Inward v.graph t u h
+beside_inward {v = v} {t = t} {h = h} l b =
     let a = h.outward in (
       reversed a b.ends,
       ap v.graph.ends (sym b.back) ∙ l.graph.back a b.ends b.out,
@@ -22,13 +22,13 @@ beside_inward v t u k h l b =
     )
 
 pub inward_there : (v : Net) (t : Terminal) (u : ℕ) (h : Neighbour) → Lawful v → Inward v.graph t u h → h.node < v.graph.nodes
-inward_there v t u h l (e, is, from, to) = subst (λ (x : ℕ). x < v.graph.nodes) from (near_there v.graph t h.inward e l.graph is)
+inward_there v t u h l (e, is, from, to) = rw (← from) (near_there v.graph t h.inward e l.graph is)
 
 pub offers : (v : Net) (f : Forest) (t : Terminal) (u : ℕ) (h : Neighbour) → Inward v.graph t u h → 0 < v.residual h.inward → f.tree h.node ≡ Some t → Anchored v.graph f.parent t h.node → Offered v f t u h.inward
 offers v f t u h (e, is, from, to) some mine anchored = (
   e,
-  record { ends = is; child = to; positive = some; same_tree = ap f.tree from ∙ mine },
-  subst (Anchored v.graph f.parent t) (sym from) anchored,
+  record { ends = is; child = to; positive = some; same_tree = rw from mine },
+  rw from anchored,
 )
 
 pub found_stands : (v : Net) (f f' : Forest) (t : Terminal) (u : ℕ) (r : Option Offer) → f' ≡ restaged f f'.stage → Found v f t u r → Found v f' t u r
@@ -39,5 +39,5 @@ found_stands v f f' t u (Some o) is found = offer_stands v f f' t u o.arc is fou
 pub found_nearer : (v : Net) (f : Forest) (t : Terminal) (u : ℕ) (best : Option Offer) (r o : Offer) → (Some r ≡ best) ⊎ (r ≡ o) → Found v f t u best → Offered v f t u o.arc → Offered v f t u r.arc
 found_nearer v f t u best r o which found offer = ⊎_elim
     (λ (is : Some r ≡ best). subst (Found v f t u) (sym is) found)
-    (λ (is : r ≡ o). subst (λ (x : Offer). Offered v f t u x.arc) (sym is) offer)
+    (λ (is : r ≡ o). rw is offer)
     which

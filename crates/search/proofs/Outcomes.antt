@@ -1,7 +1,6 @@
 -- How a run ends: refused, paused or finished.
-use Rattle.std.proofs.Common.{◌≡◌, ℕ, ◌<◌, ◌≤◌, List, ◌++◌, length, take, drop, Some, None, ap, ◌∙◌, subst, ⊎_elim, arith}
+use Rattle.std.proofs.Common.{◌≡◌, ℕ, ◌≤◌, List, ◌++◌, length, take, drop, None, ap, ◌∙◌, arith}
 use Rattle.std.proofs.lemmas.List.{length-append, length-drop, drop_at, get_or_append_left, take-append-drop}
-use Rattle.std.proofs.lemmas.Bool.{cases_lt}
 use Rattle.std.proofs.lemmas.Bool.Decides.{nat_tests}
 use Rattle.network.specs.declared.terminal.Terminal.TheVariants.{Source, Sink}
 use Rattle.network.specs.Nets.{Net, Lawful}
@@ -12,7 +11,6 @@ use Rattle.network.proofs.Duality.{finished, path_left}
 use Rattle.trees.specs.declared.work.Work.{Work}
 use Rattle.trees.specs.Forests.{Forest}
 use Rattle.trees.specs.Trees.{tree_nodes}
-use Rattle.search.specs.declared.refusal.RunRefusal.TheVariants.{FewRecords, FewMarks}
 use Rattle.search.specs.declared.report.Outcome.{Outcome}
 use Rattle.search.specs.declared.report.Outcome.TheVariants.{Finished, Paused}
 use Rattle.search.specs.declared.report.Report.{Report}
@@ -24,13 +22,7 @@ use Rattle.search.proofs.Promises.{marks_of}
 
 -- an accepted run has a record and a mark byte for each node
 pub enough : (nodes records marks : ℕ) → first_refusal nodes records marks ≡ None → (nodes ≤ records) × (nodes ≤ marks)
-enough nodes records marks none = ⊎_elim
-    (λ (few : records < nodes). absurd (let is : first_refusal nodes records marks ≡ Some FewRecords = grind (arith, nat_tests) in let z : ◌≡◌ {A = ℕ} 0 1 = cc in omega arith))
-    (λ (some : nodes ≤ records). ⊎_elim
-    (λ (few : marks < nodes). absurd (let is : first_refusal nodes records marks ≡ Some FewMarks = grind (arith, nat_tests) in let z : ◌≡◌ {A = ℕ} 0 1 = cc in omega arith))
-    (λ (more : nodes ≤ marks). (some, more))
-    (cases_lt marks nodes))
-    (cases_lt records nodes)
+enough nodes records marks none = (grind (arith, nat_tests), grind (arith, nat_tests))
 
 -- the first n elements replaced
 beyond : {A : Type 0} (n m : ℕ) (before part : List A) → m ≡ n → n ≤ length before → length part ≡ n → Beyond n before (part ++ drop m before)
@@ -56,15 +48,15 @@ ran v w before r part trail bytes ps m l is records room long wide logged end = 
     after = record { work = part ++ drop m before.work; trail = trail; marks = bytes ++ drop m before.marks }
 
     nodes : w.graph.nodes ≡ v.graph.nodes
-    nodes = logged_nodes v w before.trail trail r.log l (ps, logged)
+    nodes = logged_nodes l (ps, logged)
 
     stopped : (o : Outcome) → Ended w trail r.log (take m before.marks) bytes o → Stopped o v w before after r.log.words
-    stopped Paused ((path, short), same) = (path, omega (arith, nodes, trail_length v w before.trail trail r.log ps logged), ap (λ (xs : List ℕ). xs ++ drop m before.marks) same ∙ take-append-drop m before.marks)
+    stopped Paused ((path, short), same) = (path, omega (arith, nodes, trail_length logged), ap (λ (xs : List ℕ). xs ++ drop m before.marks) same ∙ take-append-drop m before.marks)
     stopped Finished (f, apart, marked) = (
-      no_path w f (logged_lowered v w before.trail trail r.log ps l logged).lawful apart,
+      no_path w f (logged_lowered l logged).lawful apart,
       marks_of v v.graph.nodes (bytes ++ drop m before.marks) l (λ u there. (
         mark_by (tree_nodes f Source u) (tree_nodes f Sink u),
         get_or_append_left bytes (drop m before.marks) 0 u (omega arith) ∙ marked u (omega (arith, nodes)),
-        (finished v ps (tree_nodes f) l logged.successive (subst (λ (x : Net). Separate x (tree_nodes f)) logged.value apart)).1 u there,
+        (finished v ps (tree_nodes f) l logged.successive (rw (← logged.value) apart)).1 u there,
       )),
     )

@@ -1,5 +1,5 @@
 -- Runs in a row: what they gained is what every selection costs less, and a finished one has gained the cheapest cost.
-use Rattle.std.proofs.Common.{◌≡◌, ℕ, ◌+◌, ◌<◌, ◌≤◌, List, [], ◌∷◌, get_or, Ok, Err, Result, sym, refl, ap, ◌∙◌, subst, arith}
+use Rattle.std.proofs.Common.{◌≡◌, ℕ, ◌+◌, ◌<◌, ◌≤◌, List, [], ◌∷◌, get_or, Ok, Err, Result, refl, ap, ◌∙◌, subst, arith}
 use Rattle.network.specs.declared.mark.Mark.{Mark}
 use Rattle.network.specs.Nets.{Graph, Net, Lawful}
 use Rattle.network.specs.Cuts.{CheapestCost, Marked}
@@ -10,9 +10,8 @@ use Rattle.network.proofs.Carrying.{paths_lower, few_paths}
 use Rattle.network.proofs.Extremes.{constant_apart}
 use Rattle.network.proofs.Duality.{max_flow_min_cut, one_mark}
 use Rattle.search.specs.declared.refusal.RunRefusal.{RunRefusal}
-use Rattle.search.specs.declared.report.Outcome.{Outcome}
 use Rattle.search.specs.declared.report.Report.{Report}
-use Rattle.search.specs.Runs.{Lent, MarksOf, Stopped, Run, Runs, gained, counted, Concluded, Promise}
+use Rattle.search.specs.Runs.{Lent, MarksOf, Run, Runs, gained, counted, Concluded, Promise}
 use Rattle.search.specs.Runs.Runs.{none, then}
 
 -- what is gained is what every selection costs less, and paths are never more than that
@@ -21,19 +20,17 @@ record Lower (v : Net) (g k : ℕ) (w : Net) : Type 0 where
   lowered : Lowered v g w
   few : k ≤ g
 
+lower_none : (v : Net) → Lawful v → Lower v 0 0 v
+lower_none v l = record { begun = l; lowered = record { graph = refl; lawful = l; costs = λ X. omega arith }; few = omega arith }
+
 -- one run
 run_lower : (v : Net) (before : Lent) (r : Result Report RunRefusal) (w : Net) (after : Lent) → Lawful v → Run v before r w after → Lower v (gained r) (counted r) w
-run_lower v before (Err e) w after l (_, same, _) = record {
-  begun = l;
-  lowered = subst (Lowered v 0) (sym same) (record { graph = refl; lawful = l; costs = λ X. omega arith });
-  few = omega arith;
-}
+run_lower v before (Err e) w after l (_, same, _) = rw same (lower_none v l)
 run_lower v before (Ok r) w after l (_, ps, ran) =
     let log = ran.logged in
-    let lower = paths_lower v ps l log.successive in
     record {
       begun = l;
-      lowered = subst (λ (x : ℕ). Lowered v x w) (sym log.gain) (subst (Lowered v _) (sym log.value) lower);
+      lowered = rw (log.gain, log.value) (paths_lower v ps l log.successive);
       few = omega (arith, few_paths v ps log.successive, log.paths, log.gain);
     }
 
@@ -50,11 +47,7 @@ lower_on v g k w h j x first second = record {
 }
 
 runs_lower : (v w : Net) (g k : ℕ) → Runs v w g k → Lower v g k w
-runs_lower v w g k (none l) = record {
-  begun = l;
-  lowered = record { graph = refl; lawful = l; costs = λ X. omega arith };
-  few = omega arith;
-}
+runs_lower v w g k (none l) = lower_none v l
 runs_lower v x _ _ (then {w = w} {g = g} {k = k} rest before r after run) =
     let so_far = runs_lower v w g k rest in
     lower_on v g k w (gained r) (counted r) x so_far (run_lower w before r x after so_far.lowered.lawful run)
@@ -77,12 +70,12 @@ marks_of v n marks l mark = record {
 -- a finished run, after others, gained the rest of the cheapest cost at handing over
 concluded : (v w : Net) (g k : ℕ) (before : Lent) (r : Report) (x : Net) (after : Lent) → Lower v g k w → (run : Run w before (Ok r) x after) → Lower v (g + r.log.gain) (k + r.log.paths) x → Concluded v (g + r.log.gain) (Ok r) after
 concluded v w g k before r x after so_far (_, ps, ran) all finished =
-    let (no_path, marks) = subst (λ (o : Outcome). Stopped o w x before after r.log.words) finished ran.stopped in
+    let (no_path, marks) = rw finished at ran.stopped in
     let cheapest : CheapestCost v (g + r.log.gain) = subst (CheapestCost v) (omega arith) ((constant_apart v x (g + r.log.gain) all.lowered.costs).costs 0 (nothing_left x all.lowered.lawful no_path)) in
     let same = ap (λ (h : Graph). h.nodes) so_far.lowered.graph in (
       cheapest,
       marks_of v v.graph.nodes after.marks so_far.begun (λ u there.
-          let (m, byte, marked) = marks.mark u (subst (λ (n : ℕ). u < n) (sym same) there) in
+          let (m, byte, marked) = marks.mark u (omega (arith, same)) in
           (m, byte, (constant_apart v w g so_far.lowered.costs).marks u m marked)),
     )
 

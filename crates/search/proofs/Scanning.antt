@@ -1,17 +1,17 @@
 -- The loop that looks at the arcs of a node: what holds before each place.
-use Rattle.std.proofs.Common.{◌≡◌, ℕ, ◌+◌, ◌<◌, ◌≤◌, true, Some, None, sym, refl, ap, ◌∙◌, subst, arith}
+use Rattle.std.proofs.Common.{◌≡◌, ℕ, ◌+◌, ◌<◌, ◌≤◌, true, Some, None, refl, ap, ◌∙◌, arith}
+use Rattle.std.proofs.lemmas.Bool.Decides.{nat_tests}
 use Rattle.std.specs.List.{slice_get}
 use Rattle.network.specs.declared.terminal.Terminal.{Terminal}
 use Rattle.network.specs.Nets.{Ends, Net, Lawful}
-use Rattle.network.specs.Sides.{near, far}
+use Rattle.network.specs.Sides.{far}
 use Rattle.network.proofs.Laws.{far_there}
-use Rattle.trees.specs.declared.lane.Lane.{Lane}
-use Rattle.trees.specs.declared.lane.Lane.TheVariants.{Waiting, Orphans}
+use Rattle.trees.specs.declared.lane.Lane.TheVariants.{Waiting}
 use Rattle.trees.specs.declared.work.Parent.TheVariants.{Along}
 use Rattle.trees.specs.Forests.{Forest, with_queued, joined}
 use Rattle.trees.specs.Trees.{Trees, growth_left}
 use Rattle.trees.specs.Searches.{TreesBut, Grows}
-use Rattle.trees.proofs.Points.{at_here, at_else, at_twice, none_some, one_tree}
+use Rattle.trees.proofs.Points.{at_here, at_twice}
 use Rattle.trees.proofs.Places.{Through, through_all}
 use Rattle.trees.proofs.Efforts.{growth_joined}
 use Rattle.trees.proofs.Changes.{join_trees, sleep_trees, requeue_trees}
@@ -31,16 +31,13 @@ pub record Scanning (v : Net) (t : Terminal) (u k : ℕ) (before f : Forest) : T
   pub seen : Through v.graph t u k (Inside v f t)
 
 -- a neighbour has a record
-pub scanning_there : (v : Net) (t : Terminal) (u k : ℕ) (before f : Forest) (h : Neighbour) → Lawful v → Scanning v t u k before f → Beside v.graph t u k h → h.node < f.size
-scanning_there v t u k before f h l s b =
-    subst (λ (x : ℕ). h.node < x) (sym s.trees.size) (subst (λ (x : ℕ). x < v.graph.nodes) b.to (far_there v.graph t h.outward b.ends l.graph b.out))
-
-pub scanning_few : (v : Net) (t : Terminal) (u k : ℕ) (before f : Forest) (h : Neighbour) → Lawful v → Scanning v t u k before f → Beside v.graph t u k h → h.node < 4096
-scanning_few v t u k before f h l s b = omega (arith, scanning_there v t u k before f h l s b, s.trees.size, l.graph.few_nodes)
+pub scanning_there : {v : Net} {t : Terminal} {u k : ℕ} {before f : Forest} {h : Neighbour} → Lawful v → Scanning v t u k before f → Beside v.graph t u k h → h.node < f.size
+scanning_there {v = v} {t = t} {h = h} l s b =
+    omega (arith, b.to, s.trees.size, far_there v.graph t h.outward b.ends l.graph b.out)
 
 -- an arc that leads nowhere new
-pub scanning_more : (v : Net) (t : Terminal) (u k : ℕ) (before f : Forest) (h : Neighbour) → Lawful v → Scanning v t u k before f → Beside v.graph t u k h → (0 < v.residual h.outward → f.tree h.node ≡ Some t) → Scanning v t u (k + 1) before f
-scanning_more v t u k before f h l s b inside = record {
+pub scanning_more : {v : Net} {t : Terminal} {u k : ℕ} {before f : Forest} {h : Neighbour} → Lawful v → Scanning v t u k before f → Beside v.graph t u k h → (0 < v.residual h.outward → f.tree h.node ≡ Some t) → Scanning v t u (k + 1) before f
+scanning_more {v = v} {t = t} {u = u} {k = k} {f = f} {h = h} l s b inside = record {
   trees = s.trees;
   mine = s.mine;
   grows = s.grows;
@@ -54,13 +51,12 @@ scanning_joined v t u k before f h l s b some free =
     let a = h.outward in
     let w = h.node in
     let f' = joined f t w (Along a) in
-    let there : w < v.graph.nodes = subst (λ (x : ℕ). x < v.graph.nodes) b.to (far_there v.graph t a b.ends l.graph b.out) in
-    let other : (x : ℕ) (y : Terminal) → f.tree x ≡ Some y → x ≡ w → ⊥ = λ x y in_tree is. none_some (f.tree w) y free (ap f.tree (sym is) ∙ in_tree) in
-    let kept : (x : ℕ) (y : Terminal) → f.tree x ≡ Some y → f'.tree x ≡ Some y = λ x y in_tree. at_else f.tree w (Some t) x (other x y in_tree) ∙ in_tree in
+    let there : w < v.graph.nodes = omega (arith, b.to, far_there v.graph t a b.ends l.graph b.out) in
+    let kept : (x : ℕ) (y : Terminal) → f.tree x ≡ Some y → f'.tree x ≡ Some y = λ x y in_tree. grind (arith, nat_tests) in
     let joins = join_trees v (with_queued f Waiting u true) t w a b.ends l s.trees free (record { ends = b.out; child = b.to; positive = some; same_tree = ap f.tree b.from ∙ s.mine }) in
-    scanning_more v t u k before f' h l
+    scanning_more {f = f'} l
     (record {
-      trees = requeue_trees v (joined (with_queued f Waiting u true) t w (Along a)) (with_queued f' Waiting u true).queued (λ y x. elim y as (λ (y : Lane). (joined (with_queued f Waiting u true) t w (Along a)).queued y x ≡ true → (with_queued f' Waiting u true).queued y x ≡ true) [ Waiting ↦ at_twice (f.queued Waiting) u w x | Orphans ↦ λ is. is ]) joins;
+      trees = requeue_trees v (joined (with_queued f Waiting u true) t w (Along a)) _ (at_twice (f.queued Waiting) u w) (λ _ is. is) joins;
       mine = kept u t s.mine;
       grows = record { size = s.grows.size; orphans = s.grows.orphans; stages = s.grows.stages };
       left = omega (arith, s.left, growth_joined v.graph.nodes w f t (Along a) there free);
@@ -69,11 +65,11 @@ scanning_joined v t u k before f h l s b some free =
     b
     (λ _. at_here f.tree w (Some t) w refl)
 
-pub scanning_grown : (v : Net) (t : Terminal) (u k : ℕ) (before f f' : Forest) (h : Neighbour) → Lawful v → Scanning v t u k before f → Beside v.graph t u k h → 0 < v.residual h.outward → f.tree h.node ≡ None → f' ≡ joined f t h.node (Along h.outward) → Scanning v t u (k + 1) before f'
-scanning_grown v t u k before f f' h l s b some free is = subst (Scanning v t u (k + 1) before) (sym is) (scanning_joined v t u k before f h l s b some free)
+pub scanning_grown : {v : Net} {t : Terminal} {u k : ℕ} {before f f' : Forest} {h : Neighbour} → Lawful v → Scanning v t u k before f → Beside v.graph t u k h → 0 < v.residual h.outward → f.tree h.node ≡ None → f' ≡ joined f t h.node (Along h.outward) → Scanning v t u (k + 1) before f'
+scanning_grown l s b some free is = rw is (scanning_joined _ _ _ _ _ _ _ l s b some free)
 
 -- every arc has been seen: the node need not wait
-pub scanning_ends : (v : Net) (t : Terminal) (u k : ℕ) (before f : Forest) → Lawful v → Scanning v t u k before f → slice_get (v.graph.arcs u) k ≡ None → Trees v f
-scanning_ends v t u k before f l s past = sleep_trees v f u s.trees (λ y a e in_tree is from some.
-    let side : t ≡ y = one_tree (f.tree u) t y s.mine in_tree in
-    subst (λ (x : Terminal). near x e ≡ u → f.tree (far x e) ≡ Some x) side (λ out. through_all v.graph t u k (Inside v f t) l.graph past s.seen a e is out some) from)
+pub scanning_ends : {v : Net} {t : Terminal} {u k : ℕ} {before f : Forest} → Lawful v → Scanning v t u k before f → slice_get (v.graph.arcs u) k ≡ None → Trees v f
+scanning_ends {v = v} {t = t} {u = u} {k = k} {f = f} l s past = sleep_trees v f u s.trees (λ y a e in_tree is from some.
+    let side : y ≡ t = cc in
+    rw side (through_all v.graph t u k (Inside v f t) l.graph past s.seen a e is (rw side at from) some))

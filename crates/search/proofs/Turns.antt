@@ -1,5 +1,5 @@
 -- One turn of the run: growth, a path, adoption.
-use Rattle.std.proofs.Common.{◌≡◌, ℕ, ◌+◌, ◌<◌, ◌≤◌, Bool, List, [], ◌∷◌, ◌++◌, length, ap, ◌∙◌, subst, arith}
+use Rattle.std.proofs.Common.{◌≡◌, ℕ, ◌+◌, ◌<◌, ◌≤◌, List, [], ◌∷◌, ◌++◌, length, ap, ◌∙◌, arith}
 use Rattle.network.specs.Nets.{Graph, Net, Lawful}
 use Rattle.network.specs.Cuts.{cost}
 use Rattle.network.specs.Sides.{Separate}
@@ -27,25 +27,25 @@ pub record Turn (v₀ : Net) (trail₀ : List ℕ) (log₀ : Log) (v : Net) (f :
   pub nodes : v.graph.nodes ≡ v₀.graph.nodes
 
 -- growth makes no orphans
-pub grown_settled : (v : Net) (f f' : Forest) → Settled v f → Grows f f' → Trees v f' → Settled v f'
-grown_settled v f f' s g h = record { trees = h; no_orphans = λ u there. ap (λ (q : ℕ → Bool). q u) g.orphans ∙ s.no_orphans u (subst (λ (n : ℕ). u < n) g.size there) }
+pub grown_settled : {v : Net} {f f' : Forest} → Settled v f → Grows f f' → Trees v f' → Settled v f'
+grown_settled s g h = record { trees = h; no_orphans = λ u there. rw g.orphans (s.no_orphans u (omega arith)) }
 
 -- a bridge is a path that is left
-pub bridge_pauses : (v : Net) (f : Forest) (a : ℕ) (trail : List ℕ) (log : Log) → Lawful v → Settled v f → Bridges v f a → length trail < log.words + (v.graph.nodes + 2) → PauseDue v trail log
-bridge_pauses v f a trail log l s (e, b) short = (bridge_path v f a e l s.trees s.no_orphans b, short)
+pub bridge_pauses : {v : Net} {f : Forest} {a : ℕ} (trail : List ℕ) (log : Log) → Lawful v → Settled v f → Bridges v f a → length trail < log.words + (v.graph.nodes + 2) → PauseDue v trail log
+bridge_pauses trail log l s (e, b) short = (bridge_path _ _ _ e l s.trees s.no_orphans b, short)
 
 -- trees that cannot grow hold what is reached
-pub ended : (v : Net) (f : Forest) → Lawful v → Settled v f → Empty f Waiting → Separate v (tree_nodes f)
-ended v f l s asleep = separate v f l s.trees asleep s.no_orphans
+pub ended : {v : Net} {f : Forest} → Lawful v → Settled v f → Empty f Waiting → Separate v (tree_nodes f)
+ended l s asleep = separate _ _ l s.trees asleep s.no_orphans
 
 -- the path of this turn
-pub steps_more : (v₀ v w : Net) (trail₀ trail after : List ℕ) (log₀ log more : Log) → Steps v₀ v trail₀ trail log₀ log → SomeFurther v w trail after log more → Steps v₀ w trail₀ after log₀ more
-steps_more v₀ v w trail₀ trail after log₀ log more steps (p, further) u before h =
+pub steps_more : {v₀ v w : Net} {trail₀ trail after : List ℕ} {log₀ log more : Log} → Steps v₀ v trail₀ trail log₀ log → SomeFurther v w trail after log more → Steps v₀ w trail₀ after log₀ more
+steps_more steps (p, further) u before h =
     let (ps, logged) = steps u before h in
-    (ps ++ p ∷ [], logged_more u v w before trail after log more ps p logged further)
+    (ps ++ p ∷ [], logged_more logged further)
 
-pub bounded_more : (v w : Net) (trail after : List ℕ) (log more : Log) → Lawful v → Bounded v log → SomeFurther v w trail after log more → Bounded w more
-bounded_more v w trail after log more l b (p, further) =
+pub bounded_more : {v w : Net} {trail after : List ℕ} {log more : Log} → Lawful v → Bounded v log → SomeFurther v w trail after log more → Bounded w more
+bounded_more {v = v} l b (p, further) =
     let lower = (path_lowers v p l further.augmenting).costs everything in
     let is = ap (λ (x : Net). cost x everything) further.value in
     let paths = ap (λ (x : Log). x.paths) further.log in
@@ -55,16 +55,16 @@ bounded_more v w trail after log more l b (p, further) =
       small = omega (arith, b.small, lower, is, gains);
     }
 
-pub nodes_more : (v w : Net) (trail after : List ℕ) (log more : Log) → Lawful v → SomeFurther v w trail after log more → w.graph.nodes ≡ v.graph.nodes
-nodes_more v w trail after log more l (p, further) = ap (λ (x : Net). x.graph.nodes) further.value ∙ ap (λ (g : Graph). g.nodes) (path_lowers v p l further.augmenting).graph
+pub nodes_more : {v w : Net} {trail after : List ℕ} {log more : Log} → Lawful v → SomeFurther v w trail after log more → w.graph.nodes ≡ v.graph.nodes
+nodes_more {v = v} l (p, further) = ap (λ (x : Net). x.graph.nodes) further.value ∙ ap (λ (g : Graph). g.nodes) (path_lowers v p l further.augmenting).graph
 
 -- each path lowers what can still be gained
-pub cost_falls : (v w : Net) (trail after : List ℕ) (log more : Log) → Lawful v → SomeFurther v w trail after log more → cost w everything < cost v everything
-cost_falls v w trail after log more l (p, further) =
+pub cost_falls : {v w : Net} {trail after : List ℕ} {log more : Log} → Lawful v → SomeFurther v w trail after log more → cost w everything < cost v everything
+cost_falls {v = v} l (p, further) =
     omega (arith, (path_lowers v p l further.augmenting).costs everything, some_amount v p further.augmenting, ap (λ (x : Net). cost x everything) further.value)
 
-pub words_more : (v w : Net) (trail after : List ℕ) (log more : Log) → SomeFurther v w trail after log more → length after ≡ length trail → more.words ≤ length after
-words_more v w trail after log more (p, further) long = omega (arith, further.fits)
+pub words_more : {v w : Net} {trail after : List ℕ} {log more : Log} → SomeFurther v w trail after log more → length after ≡ length trail → more.words ≤ length after
+words_more (p, further) long = omega (arith, further.fits)
 
-pub paths_more : (v w : Net) (trail after : List ℕ) (log more : Log) → SomeFurther v w trail after log more → more.paths ≡ log.paths + 1
-paths_more v w trail after log more (p, further) = ap (λ (x : Log). x.paths) further.log
+pub paths_more : {v w : Net} {trail after : List ℕ} {log more : Log} → SomeFurther v w trail after log more → more.paths ≡ log.paths + 1
+paths_more (p, further) = ap (λ (x : Log). x.paths) further.log

@@ -21,7 +21,8 @@ pub(crate) struct Offer {
     pub(crate) distance: usize,
 }
 
-// The nearer of two parents; the first if both are as near.
+// The nearer of two parents; the first if both are as near. No `min_by_key` over the neighbours: asking one writes to the table, and of
+// a closure that writes a proof would know nothing afterwards.
 fn nearer(best: Option<Offer>, other: Offer) -> Offer
     ensures { (Some result ≡ best) ⊎ (result ≡ other) }
 {
@@ -38,7 +39,8 @@ struct Adoption<'a, N> {
 }
 
 impl<N: Network> Adoption<'_, N> {
-    // How far a node is from its terminal, if it hangs from it. A node that is known to do so in this stage ends the climb.
+    // How far a node is from its terminal, if it hangs from it. A node that is known to do so in this stage ends the climb, and no climb
+    // has more steps than there are records.
     fn distance_up(&self, table: &Table, node: usize) -> Option<usize>
         requires survey { Survey (N.Network.value self.now.net.now) (forest_of table.now) self.now.stage }
         requires there { node < (N.Network.value self.now.net.now).graph.nodes }
@@ -70,18 +72,16 @@ impl<N: Network> Adoption<'_, N> {
         ensures trees { forest_of table.new ≡ restaged (forest_of table.old) (forest_of table.new).stage }
     {
         let mut at = node;
-        let mut left = distance;
-        for _ in 0..table.records().len() {
+        for steps in 0..table.records().len() {
             let record = *table.work(at);
             if record.stage == self.stage {
                 return;
             }
-            table.set_stage(at, self.stage, left);
+            table.set_stage(at, self.stage, distance.saturating_sub(steps));
             let Parent::Along(arc) = record.parent else {
                 return;
             };
             at = near_end(self.net, self.terminal, arc);
-            left = left.saturating_sub(1);
         }
     }
 

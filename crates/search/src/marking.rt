@@ -25,6 +25,7 @@ pub(crate) fn mark(table: &Table, marks: &mut [u8])
     requires { length marks.old ≡ (forest_of table.now).size }
     ensures { MarkedByTree (forest_of table.now) (forest_of table.now).size marks.new }
 {
+    // `zip` with the records was tried: what the marks are while it holds them the proof cannot name
     for (node, mark) in marks.iter_mut().enumerate() {
         *mark = mark_of(table.work(node).tree).into();
     }

@@ -10,8 +10,8 @@ use network::Terminal;
 use trees::{Lane, Parent, Queues, Ring, Work};
 
 // The records and the queues' rings. The network is no field: a struct with its loan would have each function that changes it say
-// that it still holds the same loan. Nor is it a ghost field that the trees stand: such a fact has one proof at most, and this one
-// tells a climb for each node.
+// that it still holds the same loan. Nor is it a ghost field that the trees stand, which was tried: such a fact has one proof at most,
+// and this one tells a climb for each node. Nor a model: what a table means are functions, and a model's value is data.
 #[derive(Drop)]
 pub(crate) struct Table<'a> {
     work: &'a mut [Work],
@@ -149,9 +149,8 @@ impl<'a> Table<'a> {
         requires { child < (forest_of self.old).size }
         ensures { forest_of self.new ≡ disowned (forest_of self.old) child arc }
     {
-        match self.work[child].parent {
-            Parent::Along(code) if code == arc => self.orphan(child),
-            _ => {}
+        if self.work(child).parent == Parent::Along(arc) {
+            self.orphan(child);
         }
     }
 }

@@ -1,5 +1,5 @@
 -- An orphan and the parent it has found.
-use Rattle.std.proofs.Common.{◌≡◌, ℕ, true, Some, sym, refl, ap, ◌∙◌, subst}
+use Rattle.std.proofs.Common.{◌≡◌, ℕ, true, Some, refl, ap, ◌∙◌}
 use Rattle.network.specs.declared.terminal.Terminal.{Terminal}
 use Rattle.network.specs.Nets.{Net, Lawful}
 use Rattle.trees.specs.declared.lane.Lane.TheVariants.{Orphans}
@@ -20,26 +20,26 @@ pub record PickedOrphan (v : Net) (f : Forest) (t : Terminal) (u : ℕ) : Type 0
 
 -- it is one while only stages change
 pub orphan_stays : (v : Net) (f f' : Forest) (t : Terminal) (u : ℕ) → f' ≡ restaged f f'.stage → PickedOrphan v f t u → PickedOrphan v f' t u
-orphan_stays v f f' t u is o = subst (λ (x : Forest). PickedOrphan v x t u) (sym is) (record {
+orphan_stays v f f' t u is o = rw is (record {
   trees = restage_trees v (with_queued f Orphans u true) f'.stage o.trees;
   mine = o.mine;
   alone = o.alone;
 })
 
-pub adopted_trees : (v : Net) (f : Forest) (t : Terminal) (u a stage : ℕ) → Lawful v → PickedOrphan v f t u → Offered v f t u a → Trees v (with_stage (with_parent f u (Along a)) u stage)
-adopted_trees v f t u a stage l o (e, b, anchored) =
+pub adopted_trees : {v : Net} {f : Forest} {t : Terminal} {u a : ℕ} (stage : ℕ) → Lawful v → PickedOrphan v f t u → Offered v f t u a → Trees v (with_stage (with_parent f u (Along a)) u stage)
+adopted_trees {v = v} {f = f} {t = t} {u = u} {a = a} stage l o (e, b, anchored) =
     let f' = with_parent f u (Along a) in
     restage_trees v f' (with_stage f' u stage).stage (adopt_trees v f t u a e l o.trees o.alone o.mine b anchored)
 
-pub adopted_survey : (v : Net) (f : Forest) (t : Terminal) (u a stage : ℕ) → PickedOrphan v f t u → Offered v f t u a → Survey v f stage → Survey v (with_stage (with_parent f u (Along a)) u stage) stage
-adopted_survey v f t u a stage o (e, b, anchored) s =
+pub adopted_survey : {v : Net} {f : Forest} {t : Terminal} {u a stage : ℕ} → PickedOrphan v f t u → Offered v f t u a → Survey v f stage → Survey v (with_stage (with_parent f u (Along a)) u stage) stage
+adopted_survey {v = v} {f = f} {t = t} {u = u} {a = a} {stage = stage} o (e, b, anchored) s =
     let f' = with_parent f u (Along a) in
     let above = anchored_adopted v.graph f.parent t u _ (Along a) o.alone anchored in
     survey_stage v f' stage t u (survey_adopted v f stage t u a s o.alone o.mine (e, b, anchored)) o.mine (anchored_below v.graph f'.parent t u a e (at_here f.parent u (Along a) u refl) b.ends above)
 
 -- an offer stands while only stages change
 pub offer_stands : (v : Net) (f f' : Forest) (t : Terminal) (u a : ℕ) → f' ≡ restaged f f'.stage → Offered v f t u a → Offered v f' t u a
-offer_stands v f f' t u a is (e, b, anchored) = subst (λ (x : Forest). Offered v x t u a) (sym is) (e, branch_in v f (restaged f f'.stage) t u a e b b.same_tree, anchored)
+offer_stands v f f' t u a is (e, b, anchored) = rw is (e, branch_in v f (restaged f f'.stage) t u a e b b.same_tree, anchored)
 
 -- only stages have changed, and once more
 pub restaged_on : (f g h : Forest) → g ≡ restaged f g.stage → h ≡ restaged g h.stage → h ≡ restaged f h.stage

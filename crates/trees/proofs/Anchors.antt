@@ -1,10 +1,11 @@
 -- Nodes that hang from their terminal, and how adoption keeps what it knows of them.
-use Rattle.std.proofs.Common.{◌≡◌, ℕ, ◌<◌, Bool, List, ◌∷◌, Some, None, sym, ap, ◌∙◌, subst, ⊎_elim, arith}
+use Rattle.std.proofs.Common.{◌≡◌, ℕ, ◌<◌, Bool, List, ◌∷◌, Some, None, refl, ◌∙◌, subst, ⊎_elim, arith}
 use Rattle.std.proofs.lemmas.Bool.{cases_eq}
+use Rattle.std.proofs.lemmas.Bool.Decides.{nat_tests}
 use Rattle.network.specs.declared.terminal.Terminal.{Terminal}
 use Rattle.network.specs.Nets.{Ends, Graph, Net, Lawful, at}
 use Rattle.network.specs.Sides.{near}
-use Rattle.network.proofs.Laws.{one_ends, near_there}
+use Rattle.network.proofs.Laws.{near_there}
 use Rattle.trees.specs.declared.lane.Lane.{Lane}
 use Rattle.trees.specs.declared.work.Parent.{Parent}
 use Rattle.trees.specs.declared.work.Parent.TheVariants.{Orphan, Root, Along}
@@ -12,10 +13,10 @@ use Rattle.trees.specs.Forests.{Forest, with_tree, with_parent, with_queued, wit
 use Rattle.trees.specs.Trees.{Climb, Anchored, Branch}
 use Rattle.trees.specs.Trees.Climb.{here, up}
 use Rattle.trees.specs.Surveys.{Survey, Offered}
-use Rattle.trees.proofs.Points.{at_here, at_else, none_some, one_tree, root_orphan, along_root, along_orphan}
+use Rattle.trees.proofs.Points.{at_here, at_else}
 use Rattle.trees.proofs.Climbs.{branch_at}
 use Rattle.trees.proofs.Hanging.{cut_along}
-use Rattle.trees.proofs.Changes.{branch_in}
+use Rattle.trees.proofs.Changes.{branch_in, parents_in, parents_hung}
 
 -- what hangs from an anchored node is anchored
 pub anchored_below : (g : Graph) (parent : ℕ → Parent) (t : Terminal) (u a : ℕ) (e : Ends) → parent u ≡ Along a → g.ends a ≡ Some e → Anchored g parent t (near t e) → Anchored g parent t u
@@ -26,16 +27,15 @@ anchored_root g parent t u root = (u, _, here, root)
 
 -- the parent of an anchored node is anchored
 pub anchored_above : (g : Graph) (parent : ℕ → Parent) (t : Terminal) (u a : ℕ) (e : Ends) → parent u ≡ Along a → g.ends a ≡ Some e → Anchored g parent t u → Anchored g parent t (near t e)
-anchored_above g parent t u a e at is (w, arcs, here, root) = along_root (parent u) a at root
+anchored_above g parent t u a e at is (w, arcs, here, root) = cc
 anchored_above g parent t u a e at is (w, arcs, up b d at_b is_b climb, root) =
-    let arc : b ≡ a = let same : Along b ≡ Along a = sym at_b ∙ at in cc in
-    let ends : d ≡ e = one_ends g a d e (ap g.ends (sym arc) ∙ is_b) is in
+    let ends : d ≡ e = cc in
     subst (λ (x : Ends). Anchored g parent t (near t x)) ends (w, _, climb, root)
 
 -- an orphan is not anchored
 pub orphan_loose : (g : Graph) (parent : ℕ → Parent) (t : Terminal) (u : ℕ) → parent u ≡ Orphan → Anchored g parent t u → ⊥
-orphan_loose g parent t u alone (w, arcs, here, root) = root_orphan (parent u) root alone
-orphan_loose g parent t u alone (w, arcs, up a e at is climb, root) = along_orphan (parent u) a at alone
+orphan_loose g parent t u alone (w, arcs, here, root) = cc
+orphan_loose g parent t u alone (w, arcs, up a e at is climb, root) = cc
 
 climb_map : (g : Graph) (parent parent' : ℕ → Parent) (t : Terminal) → ((y a : ℕ) → parent y ≡ Along a → parent' y ≡ Along a) → (u w : ℕ) (arcs : List ℕ) → Climb g parent t u w arcs → Climb g parent' t u w arcs
 climb_map g parent parent' t kept u w _ here = here
@@ -46,18 +46,18 @@ pub anchored_adopted : (g : Graph) (parent : ℕ → Parent) (t : Terminal) (c x
 anchored_adopted g parent t c x p alone (w, arcs, climb, root) = (
   w,
   arcs,
-  climb_map g parent (at parent c p) t (λ y a at_y. at_else parent c p y (λ same. along_orphan (parent c) a (ap parent (sym same) ∙ at_y) alone) ∙ at_y) x w arcs climb,
-  at_else parent c p w (λ same. root_orphan (parent c) (ap parent (sym same) ∙ root) alone) ∙ root,
+  climb_map g parent (at parent c p) t (λ y a at_y. grind (arith, nat_tests)) x w arcs climb,
+  grind (arith, nat_tests),
 )
 
 -- where c is not anchored in the tree, anchored nodes stay so when c loses its parent
 anchored_cut : (v : Net) (f : Forest) (stage : ℕ) (t : Terminal) (c : ℕ) → Lawful v → Survey v f stage → (f.tree c ≡ Some t → Anchored v.graph f.parent t c → ⊥) → (x w : ℕ) (arcs : List ℕ) → x < v.graph.nodes → f.tree x ≡ Some t → Climb v.graph f.parent t x w arcs → f.parent w ≡ Root → Anchored v.graph (at f.parent c Orphan) t x
 anchored_cut v f stage t c l s loose x w _ there in_tree here root =
-    let other : x ≡ c → ⊥ = λ same. loose (ap f.tree (sym same) ∙ in_tree) (subst (Anchored v.graph f.parent t) same (x, _, here, root)) in
+    let other : x ≡ c → ⊥ = λ same. loose (cc) (rw (← same) (x, _, here, root)) in
     (x, _, here, at_else f.parent c Orphan x other ∙ root)
 anchored_cut v f stage t c l s loose x w _ there in_tree (up {arcs = more} a e at_x is rest) root =
     let mine = (branch_at v f t x a e (s.parents t x a there in_tree at_x) is).same_tree in
-    let other : x ≡ c → ⊥ = λ same. loose (ap f.tree (sym same) ∙ in_tree) (subst (Anchored v.graph f.parent t) same (w, a ∷ more, up a e at_x is rest, root)) in
+    let other : x ≡ c → ⊥ = λ same. loose (cc) (rw (← same) (w, a ∷ more, up a e at_x is rest, root)) in
     let (r, arcs, climb, top) = anchored_cut v f stage t c l s loose (near t e) w more (near_there v.graph t a e l.graph is) mine rest root in
     (r, a ∷ arcs, up a e (at_else f.parent c Orphan x other ∙ at_x) is climb, top)
 
@@ -65,32 +65,22 @@ anchored_cut v f stage t c l s loose x w _ there in_tree (up {arcs = more} a e a
 pub survey_stage : (v : Net) (f : Forest) (stage : ℕ) (t : Terminal) (u : ℕ) → Survey v f stage → f.tree u ≡ Some t → Anchored v.graph f.parent t u → Survey v (with_stage f u stage) stage
 survey_stage v f stage t u s mine anchored = record {
   size = s.size;
-  parents = λ y x a there in_tree is. let (e, b) = s.parents y x a there in_tree is in (e, branch_in v f (with_stage f u stage) y x a e b b.same_tree);
+  parents = parents_in v f (with_stage f u stage) refl (λ _ _ is. is) s.parents;
   remembered = λ y x there in_tree is. ⊎_elim
       (λ (same : x ≡ u).
-      let side : t ≡ y = one_tree (f.tree u) t y mine (ap f.tree (sym same) ∙ in_tree) in
-      subst (λ (k : ℕ). Anchored v.graph f.parent y k) (sym same) (subst (λ (z : Terminal). Anchored v.graph f.parent z u) side anchored))
-      (λ (other : x ≡ u → ⊥). s.remembered y x there in_tree (sym (at_else f.stage u stage x other) ∙ is))
+      let side : t ≡ y = cc in
+      rw (same, ← side) anchored)
+      (λ (other : x ≡ u → ⊥). s.remembered y x there in_tree (grind (arith, nat_tests)))
       (cases_eq x u);
-  bounded = λ x. ⊎_elim
-      (λ (same : x ≡ u). omega (arith, at_here f.stage u stage x same))
-      (λ (other : x ≡ u → ⊥). omega (arith, at_else f.stage u stage x other, s.bounded x))
-      (cases_eq x u);
+  bounded = λ x. grind (arith, nat_tests, s.bounded x);
 }
 
 -- an orphan has found a parent
 pub survey_adopted : (v : Net) (f : Forest) (stage : ℕ) (t : Terminal) (u a : ℕ) → Survey v f stage → f.parent u ≡ Orphan → f.tree u ≡ Some t → Offered v f t u a → Survey v (with_parent f u (Along a)) stage
 survey_adopted v f stage t u a s alone mine (e, b, anchored) =
-    let f' = with_parent f u (Along a) in
     record {
       size = s.size;
-      parents = λ y x c there in_tree is. ⊎_elim
-          (λ (same : x ≡ u).
-          let side : t ≡ y = one_tree (f.tree x) t y (ap f.tree same ∙ mine) in_tree in
-          let arc : a ≡ c = let one : Along a ≡ Along c = sym (at_here f.parent u (Along a) x same) ∙ is in cc in
-          subst (λ (k : ℕ). (d : Ends) × Branch v f' y x k d) arc (subst (λ (z : Terminal). (d : Ends) × Branch v f' z x a d) side (e, record { ends = b.ends; child = b.child ∙ sym same; positive = b.positive; same_tree = b.same_tree })))
-          (λ (other : x ≡ u → ⊥). let (d, br) = s.parents y x c there in_tree (sym (at_else f.parent u (Along a) x other) ∙ is) in (d, branch_in v f f' y x c d br br.same_tree))
-          (cases_eq x u);
+      parents = parents_hung v f (with_parent f u (Along a)) t u a e b mine (at_here f.parent u (Along a) u refl) (λ _ _ is. is) (λ x not. (refl, grind (arith, nat_tests))) s.parents;
       remembered = λ y x there in_tree is. anchored_adopted v.graph f.parent y u x (Along a) alone (s.remembered y x there in_tree is);
       bounded = s.bounded;
     }
@@ -99,7 +89,7 @@ survey_adopted v f stage t u a s alone mine (e, b, anchored) =
 pub survey_queued : (v : Net) (f : Forest) (stage : ℕ) (l : Lane) (u : ℕ) (q : Bool) → Survey v f stage → Survey v (with_queued f l u q) stage
 survey_queued v f stage l u q s = record {
   size = s.size;
-  parents = λ y x a there in_tree is. let (e, b) = s.parents y x a there in_tree is in (e, branch_in v f (with_queued f l u q) y x a e b b.same_tree);
+  parents = parents_in v f (with_queued f l u q) refl (λ _ _ is. is) s.parents;
   remembered = s.remembered;
   bounded = s.bounded;
 }
@@ -109,9 +99,7 @@ pub survey_orphaned : (v : Net) (f : Forest) (stage : ℕ) (c : ℕ) → Lawful 
 survey_orphaned v f stage c l s loose =
     record {
       size = s.size;
-      parents = λ y x a there in_tree is.
-          let (e, b) = s.parents y x a there in_tree (cut_along f.parent c x a is) in
-          (e, branch_in v f (orphaned f c) y x a e b b.same_tree);
+      parents = parents_in v f (orphaned f c) refl (cut_along f.parent c) s.parents;
       remembered = λ y x there in_tree is.
           let (w, arcs, climb, root) = s.remembered y x there in_tree is in
           anchored_cut v f stage y c l s (loose y) x w arcs there in_tree climb root;
@@ -121,7 +109,7 @@ survey_orphaned v f stage c l s loose =
 -- an orphan without children becomes free
 pub survey_freed : (v : Net) (f : Forest) (stage : ℕ) (u : ℕ) → Survey v f stage → ((t : Terminal) (x b : ℕ) (d : Ends) → Branch v f t x b d → f.tree x ≡ Some t → f.parent x ≡ Along b → near t d ≡ u → ⊥) → Survey v (with_tree f u None) stage
 survey_freed v f stage u s childless =
-    let before : (y : Terminal) (x : ℕ) → at f.tree u None x ≡ Some y → f.tree x ≡ Some y = λ y x in_tree. sym (at_else f.tree u None x (λ same. none_some (at f.tree u None x) y (at_here f.tree u None x same) in_tree)) ∙ in_tree in
+    let before : (y : Terminal) (x : ℕ) → at f.tree u None x ≡ Some y → f.tree x ≡ Some y = λ y x in_tree. grind (arith, nat_tests) in
     record {
       size = s.size;
       parents = λ y x a there in_tree is.

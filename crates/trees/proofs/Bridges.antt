@@ -8,7 +8,7 @@ use Rattle.network.specs.declared.terminal.Terminal.TheVariants.{Source, Sink}
 use Rattle.network.specs.Nets.{Ends, Graph, Net, Lawful, Distinct, ends_of}
 use Rattle.network.specs.Paths.{Path, Chain, passed, last_node, on_the_way, Smallest, Augmenting}
 use Rattle.network.proofs.Lists.{not_again, distinct_one, all_nth, distinct_cons, nth_nil}
-use Rattle.network.proofs.Laws.{ends_are, head_there, one_ends, near_there}
+use Rattle.network.proofs.Laws.{ends_are, head_there, near_there}
 use Rattle.network.proofs.Searching.{smallest}
 use Rattle.trees.specs.declared.lane.Lane.TheVariants.{Orphans}
 use Rattle.trees.specs.declared.work.Parent.TheVariants.{Root}
@@ -16,7 +16,6 @@ use Rattle.trees.specs.Forests.{Forest}
 use Rattle.trees.specs.Rings.{Empty}
 use Rattle.trees.specs.Trees.{Climb, Trees, Bridge, Onward, AllOnward}
 use Rattle.trees.specs.Trees.Climb.{here, up}
-use Rattle.trees.proofs.Points.{source_sink, one_tree}
 use Rattle.trees.proofs.Climbs.{all_anchored, parent_arc, climb_stays, Height, one_height}
 use Rattle.trees.proofs.Heights.{Within, nodes_within, nodes_distinct, nodes_up}
 
@@ -41,19 +40,16 @@ leads_none v f u = record {
 leads_cons : (v : Net) (f : Forest) (w a : ℕ) (e : Ends) (arcs : List ℕ) → v.graph.ends a ≡ Some e → 0 < v.residual a → Onward f e → ((k : ℕ) → slice_get (passed v.graph e.head arcs) k ≡ Some e.tail → ⊥) → Leads v f e.head w arcs → Leads v f e.tail w (a ∷ arcs)
 leads_cons v f w a e arcs is some on new h =
     let g = v.graph in
-    let ends = sym (ends_are g a e is) in
     record {
       chain = (e, is, refl, h.chain);
-      to = subst (λ (x : Ends). last_node g x.head arcs ≡ w) ends h.to;
-      distinct = subst (λ (x : Ends). Distinct (e.tail ∷ passed g x.head arcs)) ends (distinct_cons e.tail (passed g e.head arcs) h.distinct new);
+      to = rw (ends_are g a e is) h.to;
+      distinct = subst (λ (x : Ends). Distinct (e.tail ∷ passed g x.head arcs)) (sym (ends_are g a e is)) (distinct_cons e.tail (passed g e.head arcs) h.distinct new);
       positive = (some, h.positive);
       onward = onward_cons;
     }
   where
     onward_cons : AllOnward v.graph f (a ∷ arcs)
-    onward_cons zero b d at at_b =
-        let same : a ≡ b = cc in
-        subst (Onward f) (one_ends v.graph b e d (ap v.graph.ends (sym same) ∙ is) at_b) on
+    onward_cons zero b d at at_b = let ends : e ≡ d = cc in subst (Onward f) ends on
     onward_cons (suc k) b d at at_b = h.onward k b d at at_b
 
 -- a chain of arcs up the sink's tree passes the nodes that the climb meets
@@ -71,8 +67,8 @@ sink_leads v f u w arcs l h there in_tree (up {arcs = more} a e hung is c) top =
     let nodes = subst Distinct (up_passed g u (a ∷ more)) (nodes_distinct v f Sink u w (a ∷ more) l h there in_tree (up a e hung is c) top) in
     let apart = subst (λ (x : Ends). Distinct (u ∷ passed g x.head more)) (ends_are g a e is) nodes in
     let new : (k : ℕ) → slice_get (passed g e.head more) k ≡ Some e.tail → ⊥ = λ k at. not_again u (passed g e.head more) apart k (at ∙ ap (λ x. Some x) b.child) in
-    let onward : Onward f e = inl (Sink, subst (λ x. f.tree x ≡ Some Sink) (sym b.child) in_tree, b.same_tree) in
-    subst (λ x. Leads v f x w (a ∷ more)) b.child (leads_cons v f w a e more is b.positive onward new rest)
+    let onward : Onward f e = inl (Sink, rw b.child in_tree, b.same_tree) in
+    rw (← b.child) (leads_cons v f w a e more is b.positive onward new rest)
 
 -- if x is in the source's tree, it is at least k arcs below the terminal
 abbrev Beyond : Net → Forest → ℕ → ℕ → Type 0
@@ -85,15 +81,15 @@ source_leads v f u w z arcs rest l h there in_tree (up {arcs = more} a e hung is
     let g = v.graph in
     let b = parent_arc v f Source u a e h there in_tree hung is in
     let nodes = passed g e.head rest in
-    let below : AllByRecursion (Beyond v f (suc (length more))) nodes = subst (λ x. AllByRecursion (Beyond v f (suc (length more))) (passed g x rest)) (sym b.child) low in
+    let below : AllByRecursion (Beyond v f (suc (length more))) nodes = rw b.child low in
     let mine : Height g f.parent Source e.tail (length more) = (w, more, c, top, refl) in
     let new : (k : ℕ) → slice_get nodes k ≡ Some e.tail → ⊥ = λ k at.
     omega (arith, all_nth (Beyond v f (suc (length more))) nodes k e.tail below at b.same_tree (length more) mine) in
     let lower : AllByRecursion (Beyond v f (length more)) nodes = All-weaker (Beyond v f (suc (length more))) (Beyond v f (length more)) (λ x far s j its. omega (arith, far s j its)) nodes below in
-    let onward : Onward f e = inl (Source, b.same_tree, subst (λ x. f.tree x ≡ Some Source) (sym b.child) in_tree) in
+    let onward : Onward f e = inl (Source, b.same_tree, rw b.child in_tree) in
     source_leads v f e.tail w z more (a ∷ rest) l h (near_there g Source a e l.graph is) b.same_tree c top
-    (λ s j its. omega (arith, one_height g f.parent Source e.tail j (length more) its mine), subst (λ (x : Ends). AllByRecursion (Beyond v f (length more)) (passed g x.head rest)) (sym (ends_are g a e is)) lower)
-    (leads_cons v f z a e rest is b.positive onward new (subst (λ x. Leads v f x z rest) (sym b.child) way))
+    (λ s j its. omega (arith, one_height g f.parent Source e.tail j (length more) its mine), rw (ends_are g a e is) lower)
+    (leads_cons v f z a e rest is b.positive onward new (rw b.child way))
 
 -- the arcs from one terminal's child to the other's: up the source's tree turned round, over the bridge, and up the sink's
 abbrev pub over : List ℕ → ℕ → List ℕ → List ℕ
@@ -110,12 +106,12 @@ bridge_leads v f a e first last xs ys l h b c top d end =
     let way = sink_leads v f e.head last ys l h head b.head d end in
     let low = subst (AllByRecursion (Within v f Sink (length ys))) (up_passed g e.head ys) (nodes_within v f Sink e.head last ys l h head b.head d end) in
     let nodes = passed g e.head ys in
-    let apart : (x : ℕ) → Within v f Sink (length ys) x → f.tree x ≡ Some Source → ⊥ = λ x s t. source_sink (one_tree (f.tree x) Source Sink t s.tree) in
+    let apart : (x : ℕ) → Within v f Sink (length ys) x → f.tree x ≡ Some Source → ⊥ = λ x s t. cc in
     let new : (k : ℕ) → slice_get nodes k ≡ Some e.tail → ⊥ = λ k at. apart e.tail (all_nth (Within v f Sink (length ys)) nodes k e.tail low at) b.tail in
     let far : AllByRecursion (Beyond v f (length xs)) nodes = All-weaker (Within v f Sink (length ys)) (Beyond v f (length xs)) (λ x s t. absurd (apart x s t)) nodes low in
     let mine : Beyond v f (length xs) e.tail = λ s j its. omega (arith, one_height g f.parent Source e.tail j (length xs) its (first, xs, c, top, refl)) in
     let crossing = leads_cons v f last a e ys b.ends b.positive (inr (b.tail, b.head)) new way in
-    let all = subst (λ (x : Ends). AllByRecursion (Beyond v f (length xs)) (e.tail ∷ passed g x.head ys)) (sym (ends_are g a e b.ends)) (mine, far) in
+    let all : AllByRecursion (Beyond v f (length xs)) (passed g e.tail (a ∷ ys)) = rw (ends_are g a e b.ends) (mine, far) in
     subst (Leads v f first last) (reverse_aux-eq xs (a ∷ ys)) (source_leads v f e.tail first last xs (a ∷ ys) l h tail b.tail c top all crossing)
 
 -- the path over a bridge, all of whose arcs lead onward
@@ -126,7 +122,7 @@ bridged v f a e first last x xs ys l h b c top d end least =
     let way = bridge_leads v f a e first last xs ys l h b c top d end in
     let (first_there, first-tree) = climb_stays v f Source e.tail first xs l h (l.graph.tail_there a e b.ends) b.tail c in
     let (last_there, last-tree) = climb_stays v f Sink e.head last ys l h (head_there g a e l.graph b.ends) b.head d in
-    let sink : 0 < v.terminal Sink (last_node g first arcs) = subst (λ y. 0 < v.terminal Sink y) (sym way.to) (h.rooted Sink last last_there last-tree end) in (
+    let sink : 0 < v.terminal Sink (last_node g first arcs) = rw way.to (h.rooted Sink last last_there last-tree end) in (
       record {
         there = first_there;
         chain = way.chain;

@@ -1,6 +1,7 @@
 -- The trees after each elementary change: a node joins, ends its wait, loses its parent, is adopted, is freed.
-use Rattle.std.proofs.Common.{◌≡◌, ℕ, ◌<◌, Bool, true, List, ◌∷◌, ◌++◌, Some, None, Option, sym, refl, ap, ◌∙◌, subst, inl, inr, ⊎_elim}
+use Rattle.std.proofs.Common.{◌≡◌, ℕ, ◌<◌, Bool, true, ◌⊎◌, List, ◌∷◌, ◌++◌, Some, None, sym, refl, ap, ◌∙◌, subst, inl, inr, ⊎_elim, arith}
 use Rattle.std.proofs.lemmas.Bool.{cases_eq}
+use Rattle.std.proofs.lemmas.Bool.Decides.{nat_tests}
 use Rattle.network.specs.declared.terminal.Terminal.{Terminal}
 use Rattle.network.specs.Nets.{Ends, Net, Lawful, at}
 use Rattle.network.specs.Sides.{near, far}
@@ -13,7 +14,7 @@ use Rattle.trees.specs.Forests.{Forest, with_tree, with_parent, with_queued, joi
 use Rattle.trees.specs.Trees.{Climb, Anchored, Hangs, Branch, Trees}
 use Rattle.trees.specs.Trees.Climb.{up}
 use Rattle.trees.specs.Surveys.{restaged}
-use Rattle.trees.proofs.Points.{at_here, at_else, none_some, one_tree, root_orphan, along_root, along_orphan}
+use Rattle.trees.proofs.Points.{at_here, at_else}
 use Rattle.trees.proofs.Climbs.{climb_stays, climb_append}
 use Rattle.trees.proofs.Hanging.{climb_kept, hang_cut, cut_root, cut_along}
 
@@ -21,212 +22,164 @@ use Rattle.trees.proofs.Hanging.{climb_kept, hang_cut, cut_root, cut_along}
 pub branch_in : (v : Net) (f f' : Forest) (t : Terminal) (u a : ℕ) (e : Ends) → Branch v f t u a e → f'.tree (near t e) ≡ Some t → Branch v f' t u a e
 branch_in v f f' t u a e b same = record { ends = b.ends; child = b.child; positive = b.positive; same_tree = same }
 
+-- nodes of trees that have parents hang from arcs that are there
+abbrev pub Parents : Net → Forest → Type 0
+Parents v f = (t : Terminal) (u a : ℕ) → u < v.graph.nodes → f.tree u ≡ Some t → f.parent u ≡ Along a → (e : Ends) × Branch v f t u a e
+
+-- so they do where no node has another tree or a new parent
+pub parents_in : (v : Net) (f f' : Forest) → f'.tree ≡ f.tree → ((u a : ℕ) → f'.parent u ≡ Along a → f.parent u ≡ Along a) → Parents v f → Parents v f'
+parents_in v f f' same before parents t u a there in_tree at =
+    let (e, b) = parents t u a there (cc (ap (λ (T : ℕ → _). T u) same)) (before u a at) in
+    (e, branch_in v f f' t u a e b (ap (λ (T : ℕ → _). T (near t e)) same ∙ b.same_tree))
+
+-- and where a node w has come to hang from a
+pub parents_hung : (v : Net) (f f' : Forest) (t : Terminal) (w a : ℕ) (e : Ends) → Branch v f t w a e → f'.tree w ≡ Some t → f'.parent w ≡ Along a → ((x : ℕ) (s : Terminal) → f.tree x ≡ Some s → f'.tree x ≡ Some s) → ((x : ℕ) → (x ≡ w → ⊥) → (f.tree x ≡ f'.tree x) × (f.parent x ≡ f'.parent x)) → Parents v f → Parents v f'
+parents_hung v f f' t w a e b mine hung kept else parents s x c there in_tree at = ⊎_elim
+    (λ (is : x ≡ w).
+    let side : t ≡ s = cc in
+    let arc : a ≡ c = cc in
+    rw (is, ← side, ← arc) (e, branch_in v f f' t w a e b (kept (near t e) t b.same_tree)))
+    (λ (not : x ≡ w → ⊥).
+    let (tree, parent) = else x not in
+    let (d, br) = parents s x c there (tree ∙ in_tree) (parent ∙ at) in
+    (d, branch_in v f f' s x c d br (kept (near s d) s br.same_tree)))
+    (cases_eq x w)
+
 -- a free node joins the tree below u
 pub join_trees : (v : Net) (f : Forest) (t : Terminal) (w a : ℕ) (e : Ends) → Lawful v → Trees v f → f.tree w ≡ None → Branch v f t w a e → Trees v (joined f t w (Along a))
 join_trees v f t w a e l h free b =
     let g = v.graph in
-    let T : ℕ → Option Terminal = at f.tree w (Some t) in
-    let P : ℕ → Parent = at f.parent w (Along a) in
-    let other : (x : ℕ) (s : Terminal) → f.tree x ≡ Some s → x ≡ w → ⊥ = λ x s in_tree is. none_some (f.tree w) s free (ap f.tree (sym is) ∙ in_tree) in
-    let kept : (x : ℕ) (s : Terminal) → f.tree x ≡ Some s → T x ≡ Some s = λ x s in_tree. at_else f.tree w (Some t) x (other x s in_tree) ∙ in_tree in
-    let parent_kept : (x : ℕ) (s : Terminal) → f.tree x ≡ Some s → P x ≡ f.parent x = λ x s in_tree. at_else f.parent w (Along a) x (other x s in_tree) in
-    let hang_kept : (s : Terminal) (x : ℕ) → x < g.nodes → f.tree x ≡ Some s → Hangs g P s x = λ s x there in_tree.
+    let f' = joined f t w (Along a) in
+    let kept : (x : ℕ) (s : Terminal) → f.tree x ≡ Some s → f'.tree x ≡ Some s = λ x s in_tree. grind (arith, nat_tests) in
+    let parent_kept : (x : ℕ) (s : Terminal) → f.tree x ≡ Some s → f'.parent x ≡ f.parent x = λ x s in_tree. grind (arith, nat_tests) in
+    let hang_kept : (s : Terminal) (x : ℕ) → x < g.nodes → f.tree x ≡ Some s → Hangs g f'.parent s x = λ s x there in_tree.
     let (top, arcs, climb, ends) = h.hangs s x there in_tree in
-    let (top-there, top-tree) = climb_stays v f s x top arcs l h there in_tree climb in
-    let same = parent_kept top s top-tree in
-    (top, arcs, climb_kept v f s P l h (λ y c y_tree at_y. parent_kept y s y_tree ∙ at_y) x top arcs there in_tree climb, ⊎_elim (λ (p : f.parent top ≡ Root). inl (same ∙ p)) (λ (p : f.parent top ≡ Orphan). inr (same ∙ p)) ends) in
+    let same = parent_kept top s (climb_stays v f s x top arcs l h there in_tree climb).1 in
+    (top, arcs, climb_kept v f s f'.parent l h (λ y c y_tree at_y. parent_kept y s y_tree ∙ at_y) x top arcs there in_tree climb, rw same ends) in
     record {
       size = h.size;
       roots = λ s x there some. let (in_tree, root) = h.roots s x there some in (kept x s in_tree, parent_kept x s in_tree ∙ root);
-      rooted = λ s x there in_tree root. ⊎_elim
-          (λ (is : x ≡ w). along_root (P x) a (at_here f.parent w (Along a) x is) root)
-          (λ (not : x ≡ w → ⊥). h.rooted s x there (sym (at_else f.tree w (Some t) x not) ∙ in_tree) (sym (at_else f.parent w (Along a) x not) ∙ root))
-          (cases_eq x w);
-      parents = λ s x c there in_tree at_x. ⊎_elim
-          (λ (is : x ≡ w).
-          let side : t ≡ s = one_tree (T x) t s (at_here f.tree w (Some t) x is) in_tree in
-          let arc : a ≡ c = let same : Along a ≡ Along c = sym (at_here f.parent w (Along a) x is) ∙ at_x in cc in
-          subst (λ (y : ℕ). (d : Ends) × Branch v (joined f t w (Along a)) s x y d) arc
-          (subst (λ (y : Terminal). (d : Ends) × Branch v (joined f t w (Along a)) y x a d) side
-          (e, record { ends = b.ends; child = b.child ∙ sym is; positive = b.positive; same_tree = kept (near t e) t b.same_tree })))
-          (λ (not : x ≡ w → ⊥).
-          let (d, br) = h.parents s x c there (sym (at_else f.tree w (Some t) x not) ∙ in_tree) (sym (at_else f.parent w (Along a) x not) ∙ at_x) in
-          (d, branch_in v f (joined f t w (Along a)) s x c d br (kept (near s d) s br.same_tree)))
-          (cases_eq x w);
+      rooted = λ s x there in_tree root. grind (arith, nat_tests, h.rooted s x there);
+      parents = parents_hung v f f' t w a e b (at_here f.tree w (Some t) w refl) (at_here f.parent w (Along a) w refl) kept (λ x not. (grind (arith, nat_tests), grind (arith, nat_tests))) h.parents;
       hangs = λ s x there in_tree. ⊎_elim
           (λ (is : x ≡ w).
-          let side : t ≡ s = one_tree (T x) t s (at_here f.tree w (Some t) x is) in_tree in
+          let side : t ≡ s = cc (at_here f.tree w (Some t) x is) in
           let (top, arcs, climb, ends) = hang_kept t (near t e) (near_there g t a e l.graph b.ends) b.same_tree in
-          subst (λ (y : Terminal). Hangs g P y x) side (top, a ∷ arcs, up a e (at_here f.parent w (Along a) x is) b.ends climb, ends))
-          (λ (not : x ≡ w → ⊥). hang_kept s x there (sym (at_else f.tree w (Some t) x not) ∙ in_tree))
+          rw (← side) (top, a ∷ arcs, up a e (at_here f.parent w (Along a) x is) b.ends climb, ends))
+          (λ (not : x ≡ w → ⊥). hang_kept s x there (grind (arith, nat_tests)))
           (cases_eq x w);
       frontier = λ s c d is some in_tree. ⊎_elim
           (λ (this : near s d ≡ w). inr (at_here (f.queued Waiting) w true (near s d) this))
           (λ (not : near s d ≡ w → ⊥). ⊎_elim
           (λ (in_far : f.tree (far s d) ≡ Some s). inl (kept (far s d) s in_far))
-          (λ (waits : f.queued Waiting (near s d) ≡ true). inr (at_else (f.queued Waiting) w true (near s d) not ∙ waits))
-          (h.frontier s c d is some (sym (at_else f.tree w (Some t) (near s d) not) ∙ in_tree)))
+          (λ (waits : f.queued Waiting (near s d) ≡ true). inr (grind (arith, nat_tests)))
+          (h.frontier s c d is some (grind (arith, nat_tests))))
           (cases_eq (near s d) w);
-      orphans = λ s x there in_tree alone. ⊎_elim
-          (λ (is : x ≡ w). along_orphan (P x) a (at_here f.parent w (Along a) x is) alone)
-          (λ (not : x ≡ w → ⊥). h.orphans s x there (sym (at_else f.tree w (Some t) x not) ∙ in_tree) (sym (at_else f.parent w (Along a) x not) ∙ alone))
-          (cases_eq x w);
+      orphans = λ s x there in_tree alone. grind (arith, nat_tests, h.orphans s x there);
     }
 
--- a node whose positive arcs all stay in its tree need not wait
-pub sleep_trees : (v : Net) (f : Forest) (u : ℕ) → Trees v (with_queued f Waiting u true) → ((t : Terminal) (a : ℕ) (e : Ends) → f.tree u ≡ Some t → v.graph.ends a ≡ Some e → near t e ≡ u → 0 < v.residual a → f.tree (far t e) ≡ Some t) → Trees v f
-sleep_trees v f u h seen = record {
+-- the same trees with other queues and stages, where each node that must wait does, and each orphan is queued
+kept_trees : (v : Net) (f : Forest) (queued : Lane → ℕ → Bool) (stage : ℕ → ℕ) → ((t : Terminal) (a : ℕ) (e : Ends) → v.graph.ends a ≡ Some e → 0 < v.residual a → f.tree (near t e) ≡ Some t → f.queued Waiting (near t e) ≡ true → (f.tree (far t e) ≡ Some t) ⊎ (queued Waiting (near t e) ≡ true)) → ((t : Terminal) (u : ℕ) → f.tree u ≡ Some t → f.parent u ≡ Orphan → f.queued Orphans u ≡ true → queued Orphans u ≡ true) → Trees v f → Trees v (record { size = f.size; tree = f.tree; parent = f.parent; queued = queued; stage = stage })
+kept_trees v f queued stage waits lost h = record {
   size = h.size;
   roots = h.roots;
   rooted = h.rooted;
-  parents = λ t x a there in_tree at. let (e, b) = h.parents t x a there in_tree at in (e, branch_in v (with_queued f Waiting u true) f t x a e b b.same_tree);
+  parents = parents_in v f _ refl (λ _ _ is. is) h.parents;
   hangs = h.hangs;
-  frontier = λ t a e is some in_tree. ⊎_elim
-      (λ (this : near t e ≡ u). inl (seen t a e (ap f.tree (sym this) ∙ in_tree) is this some))
-      (λ (not : near t e ≡ u → ⊥). ⊎_elim inl (λ (waits : at (f.queued Waiting) u true (near t e) ≡ true). inr (sym (at_else (f.queued Waiting) u true (near t e) not) ∙ waits)) (h.frontier t a e is some in_tree))
-      (cases_eq (near t e) u);
-  orphans = h.orphans;
+  frontier = λ t a e is some in_tree. ⊎_elim inl (waits t a e is some in_tree) (h.frontier t a e is some in_tree);
+  orphans = λ t u there in_tree alone. lost t u in_tree alone (h.orphans t u there in_tree alone);
 }
+
+-- a node whose positive arcs all stay in its tree need not wait
+pub sleep_trees : (v : Net) (f : Forest) (u : ℕ) → Trees v (with_queued f Waiting u true) → ((t : Terminal) (a : ℕ) (e : Ends) → f.tree u ≡ Some t → v.graph.ends a ≡ Some e → near t e ≡ u → 0 < v.residual a → f.tree (far t e) ≡ Some t) → Trees v f
+sleep_trees v f u h seen = kept_trees v (with_queued f Waiting u true) f.queued f.stage
+    (λ t a e is some in_tree waits. ⊎_elim
+    (λ (this : near t e ≡ u). inl (seen t a e (cc) is this some))
+    (λ (not : near t e ≡ u → ⊥). inr (grind (arith, nat_tests)))
+    (cases_eq (near t e) u))
+    (λ _ _ _ _ queued. queued) h
 
 -- f with more nodes in its queues
 abbrev pub requeued : Forest → (Lane → ℕ → Bool) → Forest
 requeued f queued = record { size = f.size; tree = f.tree; parent = f.parent; queued = queued; stage = f.stage }
 
 -- nothing is lost by putting more nodes into a queue
-pub requeue_trees : (v : Net) (f : Forest) (queued : Lane → ℕ → Bool) → ((l : Lane) (x : ℕ) → f.queued l x ≡ true → queued l x ≡ true) → Trees v f → Trees v (requeued f queued)
-requeue_trees v f queued more h = record {
-  size = h.size;
-  roots = h.roots;
-  rooted = h.rooted;
-  parents = λ t x a there in_tree at. let (e, b) = h.parents t x a there in_tree at in (e, branch_in v f (requeued f queued) t x a e b b.same_tree);
-  hangs = h.hangs;
-  frontier = λ t a e is some in_tree. ⊎_elim inl (λ (waits : f.queued Waiting (near t e) ≡ true). inr (more Waiting (near t e) waits)) (h.frontier t a e is some in_tree);
-  orphans = λ t x there in_tree alone. more Orphans x (h.orphans t x there in_tree alone);
-}
+pub requeue_trees : (v : Net) (f : Forest) (queued : Lane → ℕ → Bool) → ((x : ℕ) → f.queued Waiting x ≡ true → queued Waiting x ≡ true) → ((x : ℕ) → f.queued Orphans x ≡ true → queued Orphans x ≡ true) → Trees v f → Trees v (requeued f queued)
+requeue_trees v f queued wait lost h = kept_trees v f queued f.stage (λ t a e _ _ _ waits. inr (wait (near t e) waits)) (λ _ x _ _. lost x) h
 
 -- a node that is no orphan need not be in the queue of orphans
 pub forget_trees : (v : Net) (f : Forest) (u : ℕ) → Trees v (with_queued f Orphans u true) → ((t : Terminal) → f.tree u ≡ Some t → f.parent u ≡ Orphan → ⊥) → Trees v f
-forget_trees v f u h settled = record {
-  size = h.size;
-  roots = h.roots;
-  rooted = h.rooted;
-  parents = λ t x a there in_tree at. let (e, b) = h.parents t x a there in_tree at in (e, branch_in v (with_queued f Orphans u true) f t x a e b b.same_tree);
-  hangs = h.hangs;
-  frontier = h.frontier;
-  orphans = λ t x there in_tree alone.
-      sym (at_else (f.queued Orphans) u true x (λ same. settled t (ap f.tree (sym same) ∙ in_tree) (ap f.parent (sym same) ∙ alone))) ∙ h.orphans t x there in_tree alone;
-}
+forget_trees v f u h settled = kept_trees v (with_queued f Orphans u true) f.queued f.stage (λ _ _ _ _ _ _. inr) (λ t x in_tree alone queued. grind (arith, nat_tests, settled t)) h
 
 -- what adoption found out says nothing of the trees
 pub restage_trees : (v : Net) (f : Forest) (stage : ℕ → ℕ) → Trees v f → Trees v (restaged f stage)
-restage_trees v f stage h = record {
-  size = h.size;
-  roots = h.roots;
-  rooted = h.rooted;
-  parents = λ t x a there in_tree at. let (e, b) = h.parents t x a there in_tree at in (e, branch_in v f (restaged f stage) t x a e b b.same_tree);
-  hangs = h.hangs;
-  frontier = h.frontier;
-  orphans = h.orphans;
-}
+restage_trees v f stage h = kept_trees v f f.queued stage (λ _ _ _ _ _ _. inr) (λ _ _ _ _ queued. queued) h
 
 -- a node loses its parent
 pub orphan_trees : (v : Net) (f : Forest) (c a : ℕ) → Trees v f → f.parent c ≡ Along a → Trees v (orphaned f c)
-orphan_trees v f c a h at_c =
-    record {
-      size = h.size;
-      roots = λ s x there some.
-          let (in_tree, root) = h.roots s x there some in
-          (in_tree, at_else f.parent c Orphan x (λ same. along_root (f.parent c) a at_c (ap f.parent (sym same) ∙ root)) ∙ root);
-      rooted = λ s x there in_tree root. h.rooted s x there in_tree (cut_root f.parent c x root).1;
-      parents = λ s x b there in_tree at_x.
-          let (e, br) = h.parents s x b there in_tree (cut_along f.parent c x b at_x) in
-          (e, branch_in v f (orphaned f c) s x b e br br.same_tree);
-      hangs = λ s x there in_tree. let (w, arcs, climb, top) = h.hangs s x there in_tree in hang_cut v.graph f.parent s c x w arcs climb top;
-      frontier = h.frontier;
-      orphans = λ s x there in_tree alone. ⊎_elim
-          (λ (is : x ≡ c). at_here (f.queued Orphans) c true x is)
-          (λ (not : x ≡ c → ⊥). at_else (f.queued Orphans) c true x not ∙ h.orphans s x there in_tree (sym (at_else f.parent c Orphan x not) ∙ alone))
-          (cases_eq x c);
-    }
+orphan_trees v f c a h at_c = record {
+  size = h.size;
+  roots = λ s x there some. let (in_tree, root) = h.roots s x there some in (in_tree, grind (arith, nat_tests));
+  rooted = λ s x there in_tree root. h.rooted s x there in_tree (cut_root f.parent c x root).1;
+  parents = parents_in v f (orphaned f c) refl (cut_along f.parent c) h.parents;
+  hangs = λ s x there in_tree. let (w, arcs, climb, top) = h.hangs s x there in_tree in hang_cut v.graph f.parent s c x w arcs climb top;
+  frontier = h.frontier;
+  orphans = λ s x there in_tree alone. grind (arith, nat_tests, h.orphans s x there in_tree);
+}
 
 -- an orphan hangs below a node whose chain ends at the terminal: no ring closes, since no such chain passes an orphan
 pub adopt_trees : (v : Net) (f : Forest) (t : Terminal) (u a : ℕ) (e : Ends) → Lawful v → Trees v (with_queued f Orphans u true) → f.parent u ≡ Orphan → f.tree u ≡ Some t → Branch v f t u a e → Anchored v.graph f.parent t (near t e) → Trees v (with_parent f u (Along a))
-adopt_trees v f t u a e l h alone mine b anchored =
+adopt_trees v f t u a e l h alone mine b (r, ups, climb, root) =
     let g = v.graph in
     let f₀ = with_queued f Orphans u true in
-    let P : ℕ → Parent = at f.parent u (Along a) in
-    let other : (p : Parent) (x : ℕ) → f.parent x ≡ p → (p ≡ Orphan → ⊥) → x ≡ u → ⊥ = λ p x is no same. no (sym is ∙ ap f.parent same ∙ alone) in
-    let kept : (p : Parent) (x : ℕ) → f.parent x ≡ p → (p ≡ Orphan → ⊥) → P x ≡ p = λ p x is no. at_else f.parent u (Along a) x (other p x is no) ∙ is in
-    let not_root : Root ≡ Orphan → ⊥ = λ is. root_orphan Root refl is in
-    let climbs : (s : Terminal) (x w : ℕ) (arcs : List ℕ) → x < g.nodes → f.tree x ≡ Some s → Climb g f.parent s x w arcs → Climb g P s x w arcs = λ s x w arcs there in_tree climb.
-    climb_kept v f₀ s P l h (λ y c y_tree at_y. kept (Along c) y at_y (λ is. along_orphan (Along c) c refl is)) x w arcs there in_tree climb in
-    let (r, ups, climb, root) = anchored in
+    let f' = with_parent f u (Along a) in
+    let P = f'.parent in
+    let kept : (p : Parent) (x : ℕ) → f.parent x ≡ p → (p ≡ Orphan → ⊥) → P x ≡ p = λ p x is no. grind (arith, nat_tests) in
+    let climbs : (s : Terminal) (x w : ℕ) (arcs : List ℕ) → x < g.nodes → f.tree x ≡ Some s → Climb g f.parent s x w arcs → Climb g P s x w arcs = λ s. climb_kept v f₀ s P l h (λ y c y_tree at_y. kept (Along c) y at_y (λ is. cc)) in
     let above : Climb g P t (near t e) r ups = climbs t (near t e) r ups (near_there g t a e l.graph b.ends) b.same_tree climb in
-    let whole : (x : ℕ) → x ≡ u → Climb g P t x r (a ∷ ups) = λ x is. up a e (at_here f.parent u (Along a) x is) b.ends above in
     record {
       size = h.size;
-      roots = λ s x there some. let (in_tree, is) = h.roots s x there some in (in_tree, kept Root x is not_root);
-      rooted = λ s x there in_tree is. ⊎_elim
-          (λ (same : x ≡ u). along_root (P x) a (at_here f.parent u (Along a) x same) is)
-          (λ (not : x ≡ u → ⊥). h.rooted s x there in_tree (sym (at_else f.parent u (Along a) x not) ∙ is))
-          (cases_eq x u);
-      parents = λ s x c there in_tree at_x. ⊎_elim
-          (λ (is : x ≡ u).
-          let side : t ≡ s = one_tree (f.tree x) t s (ap f.tree is ∙ mine) in_tree in
-          let arc : a ≡ c = let same : Along a ≡ Along c = sym (at_here f.parent u (Along a) x is) ∙ at_x in cc in
-          subst (λ (y : ℕ). (d : Ends) × Branch v (with_parent f u (Along a)) s x y d) arc
-          (subst (λ (y : Terminal). (d : Ends) × Branch v (with_parent f u (Along a)) y x a d) side
-          (e, record { ends = b.ends; child = b.child ∙ sym is; positive = b.positive; same_tree = b.same_tree })))
-          (λ (not : x ≡ u → ⊥).
-          let (d, br) = h.parents s x c there in_tree (sym (at_else f.parent u (Along a) x not) ∙ at_x) in
-          (d, branch_in v f₀ (with_parent f u (Along a)) s x c d br br.same_tree))
-          (cases_eq x u);
+      roots = λ s x there some. let (in_tree, is) = h.roots s x there some in (in_tree, kept Root x is (λ is. cc));
+      rooted = λ s x there in_tree is. grind (arith, nat_tests, h.rooted s x there in_tree);
+      parents = parents_hung v f₀ f' t u a e (branch_in v f f₀ t u a e b b.same_tree) mine (at_here f.parent u (Along a) u refl) (λ _ _ is. is) (λ x not. (refl, grind (arith, nat_tests))) h.parents;
       hangs = λ s x there in_tree.
           let (w, arcs, way, top) = h.hangs s x there in_tree in
           let new = climbs s x w arcs there in_tree way in
-          let side : w ≡ u → s ≡ t = λ is. one_tree (f.tree w) s t (climb_stays v f₀ s x w arcs l h there in_tree way).1 (ap f.tree is ∙ mine) in
-          let ends : P r ≡ Root = kept Root r root not_root in
           ⊎_elim
-          (λ (is : w ≡ u). (r, arcs ++ a ∷ ups, climb_append g P s x w r arcs (a ∷ ups) new (subst (λ (y : Terminal). Climb g P y w r (a ∷ ups)) (sym (side is)) (whole w is)), inl ends))
-          (λ (not : w ≡ u → ⊥). let same = at_else f.parent u (Along a) w not in (w, arcs, new, ⊎_elim (λ (p : f.parent w ≡ Root). inl (same ∙ p)) (λ (p : f.parent w ≡ Orphan). inr (same ∙ p)) top))
+          (λ (is : w ≡ u).
+          let side : t ≡ s = cc (climb_stays v f₀ s x w arcs l h there in_tree way).1 in
+          (r, arcs ++ a ∷ ups, climb_append g P s x w r arcs (a ∷ ups) new (subst (λ (y : Terminal). Climb g P y w r (a ∷ ups)) side (up a e (at_here f.parent u (Along a) w is) b.ends above)), inl (kept Root r root (λ is. cc))))
+          (λ (not : w ≡ u → ⊥). (w, arcs, new, subst (λ p. (p ≡ Root) ⊎ (p ≡ Orphan)) (sym (at_else f.parent u (Along a) w not)) top))
           (cases_eq w u);
       frontier = h.frontier;
-      orphans = λ s x there in_tree is. ⊎_elim
-          (λ (same : x ≡ u). along_orphan (P x) a (at_here f.parent u (Along a) x same) is)
-          (λ (not : x ≡ u → ⊥). sym (at_else (f.queued Orphans) u true x not) ∙ h.orphans s x there in_tree (sym (at_else f.parent u (Along a) x not) ∙ is))
-          (cases_eq x u);
+      orphans = λ s x there in_tree is. grind (arith, nat_tests, h.orphans s x there in_tree);
     }
 
 -- an orphan without children becomes free, when those from which growth could take it wait
 pub free_trees : (v : Net) (f : Forest) (t : Terminal) (u : ℕ) → Trees v (with_queued f Orphans u true) → f.parent u ≡ Orphan → f.tree u ≡ Some t → ((s : Terminal) (x b : ℕ) (d : Ends) → Branch v f s x b d → f.tree x ≡ Some s → f.parent x ≡ Along b → near s d ≡ u → ⊥) → ((b : ℕ) (d : Ends) → Branch v f t u b d → f.queued Waiting (near t d) ≡ true) → Trees v (with_tree f u None)
 free_trees v f t u h alone mine childless woken =
     let f₀ = with_queued f Orphans u true in
-    let T : ℕ → Option Terminal = at f.tree u None in
-    let other : (s : Terminal) (x : ℕ) → T x ≡ Some s → x ≡ u → ⊥ = λ s x in_tree is. none_some (T x) s (at_here f.tree u None x is) in_tree in
-    let before : (s : Terminal) (x : ℕ) → T x ≡ Some s → f.tree x ≡ Some s = λ s x in_tree. sym (at_else f.tree u None x (other s x in_tree)) ∙ in_tree in
+    let f' = with_tree f u None in
+    let before : (s : Terminal) (x : ℕ) → f'.tree x ≡ Some s → f.tree x ≡ Some s = λ s x in_tree. grind (arith, nat_tests) in
     record {
       size = h.size;
-      roots = λ s x there some.
-          let (in_tree, root) = h.roots s x there some in
-          (at_else f.tree u None x (λ same. root_orphan (f.parent x) root (ap f.parent same ∙ alone)) ∙ in_tree, root);
+      roots = λ s x there some. let (in_tree, root) = h.roots s x there some in (grind (arith, nat_tests), root);
       rooted = λ s x there in_tree root. h.rooted s x there (before s x in_tree) root;
       parents = λ s x b there in_tree at_x.
           let (d, br) = h.parents s x b there (before s x in_tree) at_x in
           let far_off : near s d ≡ u → ⊥ = childless s x b d (branch_in v f₀ f s x b d br br.same_tree) (before s x in_tree) at_x in
-          (d, branch_in v f₀ (with_tree f u None) s x b d br (at_else f.tree u None (near s d) far_off ∙ br.same_tree));
+          (d, branch_in v f₀ f' s x b d br (at_else f.tree u None (near s d) far_off ∙ br.same_tree));
       hangs = λ s x there in_tree. h.hangs s x there (before s x in_tree);
       frontier = λ s b d is some in_tree.
           let was = before s (near s d) in_tree in
           ⊎_elim
           (λ (in_far : f.tree (far s d) ≡ Some s). ⊎_elim
           (λ (this : far s d ≡ u).
-          let side : s ≡ t = one_tree (f.tree u) s t (ap f.tree (sym this) ∙ in_far) mine in
-          inr (subst (λ (y : Terminal). f.tree (near y d) ≡ Some y → far y d ≡ u → f.queued Waiting (near y d) ≡ true) (sym side) (λ inside to. woken b d (record { ends = is; child = to; positive = some; same_tree = inside })) was this))
+          let side : t ≡ s = cc in
+          inr (rw (← side) (woken b d (record { ends = is; child = rw side this; positive = some; same_tree = rw side was }))))
           (λ (not : far s d ≡ u → ⊥). inl (at_else f.tree u None (far s d) not ∙ in_far))
           (cases_eq (far s d) u))
           (λ (waits : f.queued Waiting (near s d) ≡ true). inr waits)
           (h.frontier s b d is some was);
-      orphans = λ s x there in_tree is.
-          let not = other s x in_tree in
-          sym (at_else (f.queued Orphans) u true x not) ∙ h.orphans s x there (before s x in_tree) is;
+      orphans = λ s x there in_tree is. grind (arith, nat_tests, h.orphans s x there);
     }

@@ -1,6 +1,5 @@
 -- Climbs: they stay in their tree, go on where one another ends, and there is one from each node to the terminal at most.
-use Rattle.std.proofs.Common.{◌≡◌, ℕ, ◌<◌, List, [], ◌∷◌, ◌++◌, length, Some, refl, ap, ◌∙◌, subst, ⊎_elim, arith}
-use Rattle.std.proofs.lemmas.Bool.{both_ways}
+use Rattle.std.proofs.Common.{◌≡◌, ℕ, ◌<◌, List, [], ◌∷◌, ◌++◌, length, Some, refl, ap, subst, ⊎_elim, arith}
 use Rattle.network.specs.declared.terminal.Terminal.{Terminal}
 use Rattle.network.specs.Nets.{Ends, Graph, Net, Lawful}
 use Rattle.network.specs.Sides.{near}
@@ -12,15 +11,14 @@ use Rattle.trees.specs.Forests.{Forest}
 use Rattle.trees.specs.Rings.{Empty}
 use Rattle.trees.specs.Trees.{Climb, Anchored, Branch, Trees, There}
 use Rattle.trees.specs.Trees.Climb.{here, up}
-use Rattle.trees.proofs.Points.{along_root}
 
 -- a node's parent arc, whichever way its ends were told
 pub branch_at : (v : Net) (f : Forest) (t : Terminal) (u a : ℕ) (e : Ends) → (d : Ends) × Branch v f t u a d → v.graph.ends a ≡ Some e → Branch v f t u a e
-branch_at v f t u a e (d, b) is = subst (Branch v f t u a) (one_ends v.graph a d e b.ends is) b
+branch_at v f t u a e (d, b) is = rw (← one_ends v.graph a d e b.ends is) b
 
 -- a node's parent arc is there
-pub branch_there : (v : Net) (f : Forest) (t : Terminal) (u a : ℕ) → (e : Ends) × Branch v f t u a e → There v.graph a
-branch_there v f t u a (e, b) = (e, b.ends)
+pub branch_there : {v : Net} {f : Forest} {t : Terminal} {u a : ℕ} → (e : Ends) × Branch v f t u a e → There v.graph a
+branch_there (e, b) = (e, b.ends)
 
 -- what the trees say of the arc that u hangs from
 pub parent_arc : (v : Net) (f : Forest) (t : Terminal) (u a : ℕ) (e : Ends) → Trees v f → u < v.graph.nodes → f.tree u ≡ Some t → f.parent u ≡ Along a → v.graph.ends a ≡ Some e → Branch v f t u a e
@@ -43,17 +41,16 @@ climb_push g parent t u w arcs a e c hung is = climb_append g parent t u w (near
 -- parents are a function, so the climbs from a node to the terminal have the same arcs
 pub one_climb : (g : Graph) (parent : ℕ → Parent) (t : Terminal) (u w z : ℕ) (xs ys : List ℕ) → Climb g parent t u w xs → parent w ≡ Root → Climb g parent t u z ys → parent z ≡ Root → xs ≡ ys
 one_climb g parent t u w z xs ys here top here end = refl
-one_climb g parent t u w z xs ys here top (up a e hung is c) end = along_root (parent u) a hung top
-one_climb g parent t u w z xs ys (up a e hung is c) top here end = along_root (parent u) a hung end
+one_climb g parent t u w z xs ys here top (up a e hung is c) end = cc
+one_climb g parent t u w z xs ys (up a e hung is c) top here end = cc
 one_climb g parent t u w z xs ys (up {arcs = more} a e hung is c) top (up {arcs = rest} b d hangs at c') end =
-    let arcs : a ≡ b = cc in
-    let ends = one_ends g a e d is (ap g.ends arcs ∙ at) in
+    let ends : e ≡ d = cc in
     let others = one_climb g parent t (near t d) w z more rest (subst (λ (x : Ends). Climb g parent t (near t x) w more) ends c) top c' end in
     cc
 
 -- with no orphans, no node of a tree has lost its parent
 pub not_lost : (v : Net) (f : Forest) (t : Terminal) (u : ℕ) → Trees v f → Empty f Orphans → u < v.graph.nodes → f.tree u ≡ Some t → f.parent u ≡ Orphan → ⊥
-not_lost v f t u h none there in_tree lost = both_ways (f.queued Orphans u) (none u (omega (arith, h.size))) (h.orphans t u there in_tree lost)
+not_lost v f t u h none there in_tree lost = cc (none u (omega arith), h.orphans t u there in_tree lost)
 
 -- and so parents lead from each node of a tree to the terminal
 pub all_anchored : (v : Net) (f : Forest) (t : Terminal) (u : ℕ) → Lawful v → Trees v f → Empty f Orphans → u < v.graph.nodes → f.tree u ≡ Some t → Anchored v.graph f.parent t u

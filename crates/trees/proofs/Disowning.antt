@@ -1,6 +1,6 @@
 -- The trees when an amount is sent along an arc, and those that hang from an arc that it empties lose their parent first.
-use Rattle.std.proofs.Common.{◌≡◌, ℕ, ◌≤◌, true, false, eqb, ◌⊎◌, Some, Option, sym, refl, ap, ◌∙◌, subst}
-use Rattle.std.proofs.lemmas.Bool.{eqb-true, eqb-false}
+use Rattle.std.proofs.Common.{◌≡◌, ℕ, ◌≤◌, true, false, Some, refl, ap, ◌∙◌}
+use Rattle.std.proofs.lemmas.Bool.{cond_both, eqb-true, eqb-false}
 use Rattle.network.specs.declared.terminal.Terminal.{Terminal}
 use Rattle.network.specs.declared.terminal.Terminal.TheVariants.{Source, Sink}
 use Rattle.network.specs.Nets.{Ends, Net, Lawful, shifted}
@@ -11,20 +11,22 @@ use Rattle.trees.specs.declared.work.Parent.TheVariants.{Orphan, Root, Along}
 use Rattle.trees.specs.Forests.{Forest, orphaned}
 use Rattle.trees.specs.Trees.{Trees, Onward}
 use Rattle.trees.specs.Carryings.{is_along, disowned, Carries}
-use Rattle.trees.proofs.Points.{at_here, along_orphan, either, false_true}
+use Rattle.trees.proofs.Points.{at_here}
 use Rattle.trees.proofs.Hanging.{cut_along}
 use Rattle.trees.proofs.Changes.{orphan_trees}
 use Rattle.trees.proofs.Sending.{shift_trees}
 
 pub along_is : (p : Parent) (a : ℕ) → is_along p a ≡ true → p ≡ Along a
-along_is Orphan a is = false_true is
-along_is Root a is = false_true is
-along_is (Along b) a is = ap (λ (x : ℕ). Along x) (eqb-true b a is)
+along_is Orphan a is = cc
+along_is Root a is = cc
+along_is (Along b) a is = cc (eqb-true b a is)
 
 along_not : (p : Parent) (a : ℕ) → is_along p a ≡ false → p ≡ Along a → ⊥
-along_not p a other is =
-    let not : eqb a a ≡ false = sym (ap (λ (q : Parent). is_along q a) is) ∙ other in
-    eqb-false a a not refl
+along_not p a other is = eqb-false a a (rw is at other) refl
+
+-- what holds of f without the child, if it hangs from the arc, and of f otherwise
+pub each_way : (P : Forest → Type 0) (f : Forest) (u a : ℕ) → (f.parent u ≡ Along a → P (orphaned f u)) → ((f.parent u ≡ Along a → ⊥) → P f) → P (disowned f u a)
+each_way P f u a hung not = cond_both (is_along (f.parent u) a) (orphaned f u) f P (λ is. hung (along_is (f.parent u) a is)) (λ other. not (along_not (f.parent u) a other))
 
 pub carries_none : (f : Forest) → Carries f f
 carries_none f = record { trees = refl; stages = refl }
@@ -37,36 +39,28 @@ orphaned_same f u = record { trees = refl; stages = refl }
 
 -- the trees stand, and so does which node is in which
 pub disowned_trees : (v : Net) (f : Forest) (u a : ℕ) → Trees v f → Trees v (disowned f u a)
-disowned_trees v f u a h = either (Trees v) (is_along (f.parent u) a) (orphaned f u) f (λ is. orphan_trees v f u a h (along_is (f.parent u) a is)) (λ _. h)
+disowned_trees v f u a h = each_way (Trees v) f u a (orphan_trees v f u a h) (λ _. h)
 
 pub disowned_same : (f : Forest) (u a : ℕ) → Carries f (disowned f u a)
-disowned_same f u a = either (Carries f) (is_along (f.parent u) a) (orphaned f u) f (λ _. orphaned_same f u) (λ _. carries_none f)
-
-pub disowned_size : (f : Forest) (u a : ℕ) → (disowned f u a).size ≡ f.size
-disowned_size f u a = either (λ (g : Forest). g.size ≡ f.size) (is_along (f.parent u) a) (orphaned f u) f (λ _. refl) (λ _. refl)
+disowned_same f u a = each_way (Carries f) f u a (λ _. orphaned_same f u) (λ _. carries_none f)
 
 -- the node does not hang from the arc any longer, and no other has begun to
 pub disowned_here : (f : Forest) (u a : ℕ) → (disowned f u a).parent u ≡ Along a → ⊥
-disowned_here f u a = either (λ (g : Forest). g.parent u ≡ Along a → ⊥) (is_along (f.parent u) a) (orphaned f u) f
-    (λ _ is. along_orphan ((orphaned f u).parent u) a is (at_here f.parent u Orphan u refl))
-    (λ other is. along_not (f.parent u) a other is)
+disowned_here f u a = each_way (λ g. g.parent u ≡ Along a → ⊥) f u a (λ _ is. cc (at_here f.parent u Orphan u refl)) (λ not. not)
 
 pub disowned_else : (f : Forest) (u a w b : ℕ) → (disowned f u a).parent w ≡ Along b → f.parent w ≡ Along b
-disowned_else f u a w b = either (λ (g : Forest). g.parent w ≡ Along b → f.parent w ≡ Along b) (is_along (f.parent u) a) (orphaned f u) f
-    (λ _ is. cut_along f.parent u w b is)
-    (λ _ is. is)
+disowned_else f u a w b = each_way (λ g. g.parent w ≡ Along b → f.parent w ≡ Along b) f u a (λ _. cut_along f.parent u w b) (λ _ is. is)
 
 -- whoever waits goes on waiting
 pub disowned_waits : (f : Forest) (c a x : ℕ) → f.queued Waiting x ≡ true → (disowned f c a).queued Waiting x ≡ true
-disowned_waits f c a x waits = either (λ (g : Forest). g.queued Waiting x ≡ true) (is_along (f.parent c) a) (orphaned f c) f (λ _. waits) (λ _. waits)
+disowned_waits f c a x waits = each_way (λ g. g.queued Waiting x ≡ true) f c a (λ _. waits) (λ _. waits)
 
 -- f where nobody hangs from an arc with these ends
 abbrev pub bared : Forest → ℕ → Ends → Forest
 bared f a e = disowned (disowned f e.tail a) e.head a
 
 pub bared_is : (f f₁ f₂ : Forest) (a tail head : ℕ) (e : Ends) → f₁ ≡ disowned f tail a → f₂ ≡ disowned f₁ head a → tail ≡ e.tail → head ≡ e.head → f₂ ≡ bared f a e
-bared_is f f₁ f₂ a tail head e first second tails heads =
-    second ∙ ap (λ (g : Forest). disowned g head a) first ∙ ap (λ u. disowned (disowned f u a) head a) tails ∙ ap (λ u. disowned (disowned f e.tail a) u a) heads
+bared_is f f₁ f₂ a tail head e first second tails heads = rw (second, first, tails, heads)
 
 nobody_hangs : (f : Forest) (a : ℕ) (e : Ends) (t : Terminal) (u : ℕ) → far t e ≡ u → (bared f a e).parent u ≡ Along a → ⊥
 nobody_hangs f a e Source u child is = disowned_here (disowned f e.tail a) e.head a (ap (bared f a e).parent child ∙ is)
@@ -77,7 +71,7 @@ bared_same f a e = carries_more f (disowned f e.tail a) (bared f a e) (disowned_
 
 -- an onward arc is onward where the same nodes are in the same trees
 pub onward_in : (f f' : Forest) (e : Ends) → f'.tree ≡ f.tree → Onward f e → Onward f' e
-onward_in f f' e same onward = subst (λ (tree : ℕ → Option Terminal). ((t : Terminal) × (tree e.tail ≡ Some t) × (tree e.head ≡ Some t)) ⊎ ((tree e.tail ≡ Some Source) × (tree e.head ≡ Some Sink))) (sym same) onward
+onward_in f f' e same onward = rw same onward
 
 -- an onward arc is emptied, after nobody hangs from it
 pub send_all : (v : Net) (f : Forest) (a x : ℕ) (e : Ends) → Lawful v → Trees v f → v.graph.ends a ≡ Some e → Onward f e → x ≤ v.residual a → Trees (shifted v a x) (bared f a e)

@@ -1,6 +1,5 @@
 -- When nobody waits and nobody is an orphan, the trees hold exactly what is reached from their terminals.
 use Rattle.std.proofs.Common.{◌≡◌, ℕ, ◌<◌, true, List, Some, None, Option, sym, refl, ap, ◌∙◌, ⊎_elim, arith}
-use Rattle.std.proofs.lemmas.Bool.{both_ways}
 use Rattle.network.specs.declared.terminal.Terminal.{Terminal}
 use Rattle.network.specs.declared.terminal.Terminal.TheVariants.{Source, Sink}
 use Rattle.network.specs.Nets.{Net, Lawful}
@@ -13,14 +12,13 @@ use Rattle.trees.specs.Forests.{Forest}
 use Rattle.trees.specs.Rings.{Empty}
 use Rattle.trees.specs.Trees.{Climb, Trees, is_of, tree_nodes}
 use Rattle.trees.specs.Trees.Climb.{here, up}
-use Rattle.trees.proofs.Points.{one_tree, false_true, source_sink}
 use Rattle.trees.proofs.Climbs.{parent_arc, climb_stays, not_lost}
 
 pub is_of_some : (o : Option Terminal) (t : Terminal) → is_of o t ≡ true → o ≡ Some t
-is_of_some None t is = false_true is
+is_of_some None t is = cc
 is_of_some (Some Source) Source is = refl
-is_of_some (Some Source) Sink is = false_true is
-is_of_some (Some Sink) Source is = false_true is
+is_of_some (Some Source) Sink is = cc
+is_of_some (Some Sink) Source is = cc
 is_of_some (Some Sink) Sink is = refl
 
 pub is_of_true : (t : Terminal) → is_of (Some t) t ≡ true
@@ -47,15 +45,14 @@ separate v f l h asleep adopted = record {
         top;
     complete = λ u r. held t u r;
   };
-  apart = λ u there first second.
-      source_sink (one_tree (f.tree u) Source Sink (is_of_some (f.tree u) Source first) (is_of_some (f.tree u) Sink second));
+  apart = λ u there first second. cc (is_of_some (f.tree u) Sink second);
 }
   where
     inside : (t : Terminal) (u : ℕ) → Reached v t u → f.tree u ≡ Some t
     inside t u (root there some) = (h.roots t u there some).0
     inside t u (along a e is some from to) = ⊎_elim
         (λ (in_far : f.tree (far t e) ≡ Some t). ap f.tree (sym to) ∙ in_far)
-        (λ (waits : f.queued Waiting (near t e) ≡ true). absurd (both_ways (f.queued Waiting (near t e)) (asleep (near t e) (omega (arith, h.size, near_there v.graph t a e l.graph is))) waits))
+        (λ (waits : f.queued Waiting (near t e) ≡ true). cc (asleep (near t e) (omega (arith, h.size, near_there v.graph t a e l.graph is))))
         (h.frontier t a e is some (inside t (near t e) from))
 
     held : (t : Terminal) (u : ℕ) → Reached v t u → tree_nodes f t u ≡ true

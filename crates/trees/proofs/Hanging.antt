@@ -1,6 +1,7 @@
 -- Climbs in a tree after a change of parents.
-use Rattle.std.proofs.Common.{◌≡◌, ℕ, ◌<◌, ◌⊎◌, List, [], ◌∷◌, Some, sym, ◌∙◌, inl, inr, ⊎_elim}
-use Rattle.std.proofs.lemmas.Bool.{cases_eq}
+use Rattle.std.proofs.Common.{◌≡◌, ℕ, ◌<◌, eqb, ◌⊎◌, List, [], ◌∷◌, Some, refl, ◌∙◌, inr, ⊎_elim, arith}
+use Rattle.std.proofs.lemmas.Bool.{cases_eq, cond_both}
+use Rattle.std.proofs.lemmas.Bool.Decides.{nat_tests}
 use Rattle.network.specs.declared.terminal.Terminal.{Terminal}
 use Rattle.network.specs.Nets.{Graph, Net, Lawful, at}
 use Rattle.network.specs.Sides.{near}
@@ -10,7 +11,7 @@ use Rattle.trees.specs.declared.work.Parent.TheVariants.{Orphan, Root, Along}
 use Rattle.trees.specs.Forests.{Forest}
 use Rattle.trees.specs.Trees.{Climb, Hangs, Trees}
 use Rattle.trees.specs.Trees.Climb.{here, up}
-use Rattle.trees.proofs.Points.{at_here, at_else, along_orphan, root_orphan}
+use Rattle.trees.proofs.Points.{at_here, at_else}
 use Rattle.trees.proofs.Climbs.{parent_arc}
 
 -- a climb stands where the parents of its tree's nodes stand
@@ -22,10 +23,7 @@ climb_kept v f t parent l h kept u w _ there in_tree (up {arcs = more} a e at is
 
 -- where a node loses its parent, climbs that passed it end there
 pub hang_cut : (g : Graph) (parent : ℕ → Parent) (t : Terminal) (c u w : ℕ) (arcs : List ℕ) → Climb g parent t u w arcs → (parent w ≡ Root) ⊎ (parent w ≡ Orphan) → Hangs g (at parent c Orphan) t u
-hang_cut g parent t c u w _ here top = ⊎_elim
-    (λ (is : u ≡ c). (u, [], here, inr (at_here parent c Orphan u is)))
-    (λ (not : u ≡ c → ⊥). let same = at_else parent c Orphan u not in (u, [], here, ⊎_elim (λ (p : parent u ≡ Root). inl (same ∙ p)) (λ (p : parent u ≡ Orphan). inr (same ∙ p)) top))
-    (cases_eq u c)
+hang_cut g parent t c u w _ here top = (u, [], here, cond_both (eqb u c) Orphan (parent u) (λ p. (p ≡ Root) ⊎ (p ≡ Orphan)) (λ _. inr refl) (λ _. top))
 hang_cut g parent t c u w _ (up {arcs = more} a e at is rest) top = ⊎_elim
     (λ (this : u ≡ c). (u, [], here, inr (at_here parent c Orphan u this)))
     (λ (not : u ≡ c → ⊥).
@@ -35,11 +33,7 @@ hang_cut g parent t c u w _ (up {arcs = more} a e at is rest) top = ⊎_elim
 
 -- whoever has a parent then is another, and had it before
 pub cut_root : (parent : ℕ → Parent) (c x : ℕ) → at parent c Orphan x ≡ Root → (x ≡ c → ⊥) × (parent x ≡ Root)
-cut_root parent c x root =
-    let other : x ≡ c → ⊥ = λ same. root_orphan (at parent c Orphan x) root (at_here parent c Orphan x same) in
-    (other, sym (at_else parent c Orphan x other) ∙ root)
+cut_root parent c x root = (λ same. cc (at_here parent c Orphan x same), grind (arith, nat_tests))
 
 pub cut_along : (parent : ℕ → Parent) (c x a : ℕ) → at parent c Orphan x ≡ Along a → parent x ≡ Along a
-cut_along parent c x a along =
-    let other : x ≡ c → ⊥ = λ same. along_orphan (at parent c Orphan x) a along (at_here parent c Orphan x same) in
-    sym (at_else parent c Orphan x other) ∙ along
+cut_along parent c x a along = grind (arith, nat_tests)

@@ -43,7 +43,7 @@ nodes_within v f t u w arcs l h there in_tree (up {arcs = more} a e hung is c) t
     let above = nodes_within v f t (near t e) w more l h (near_there g t a e l.graph is) (parent_arc v f t u a e h there in_tree hung is).same_tree c top in
     let raised = All-weaker (Within v f t k) (Within v f t (suc k)) (λ x (s : Within v f t k x). record { there = s.there; tree = s.tree; height = s.height; low = omega (arith, s.low); is = s.is }) (nodes_up g t (near t e) more) above in (
       record { there = there; tree = in_tree; height = suc k; low = omega arith; is = (w, a ∷ more, up a e hung is c, top, refl) },
-      subst (λ (x : Ends). AllByRecursion (Within v f t (suc k)) (nodes_up g t (near t x) more)) (sym (ends_are g a e is)) raised,
+      rw (ends_are g a e is) raised,
     )
 
 -- a climb to the terminal rises with each step, so it meets no node twice

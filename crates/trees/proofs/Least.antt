@@ -1,7 +1,7 @@
 -- The smallest of the residuals on the way, one arc after another.
-use Rattle.std.proofs.Common.{◌≡◌, ℕ, ◌+◌, ◌<◌, ◌≤◌, min, List, [], ◌∷◌, ◌++◌, map, length, get_or, take, sym, refl, subst, ⊎_elim, arith}
+use Rattle.std.proofs.Common.{◌≡◌, ℕ, ◌+◌, ◌<◌, ◌≤◌, min, List, [], ◌∷◌, ◌++◌, map, length, get_or, take, refl, subst, ⊎_elim, arith}
 use Rattle.std.proofs.ByRecursion.{has_append_left, has_push, has_push_cases, All-weaker}
-use Rattle.std.proofs.lemmas.List.{map_more, take_all}
+use Rattle.std.proofs.lemmas.List.{map_more}
 use Rattle.std.proofs.lemmas.Bool.{cases_lt}
 use Rattle.std.specs.List.{ContainsAt, AllByRecursion}
 use Rattle.network.specs.declared.terminal.Terminal.TheVariants.{Source, Sink}
@@ -11,8 +11,8 @@ use Rattle.trees.specs.Climbs.{residuals}
 
 min_either : (P : ℕ → Type 0) (x y : ℕ) → P x → P y → P (min x y)
 min_either P x y p q = ⊎_elim
-    (λ (less : x < y). let is : x ≡ min x y = omega arith in subst P is p)
-    (λ (more : y ≤ x). let is : y ≡ min x y = omega arith in subst P is q)
+    (λ (less : x < y). subst P (omega arith) p)
+    (λ (more : y ≤ x). subst P (omega arith) q)
     (cases_lt x y)
 
 smallest_two : (x y : ℕ) → Smallest (min x y) (x ∷ y ∷ [])
@@ -52,7 +52,4 @@ least_more v first last arcs i m inside s =
     let r = v.residual (get_or arcs i 0) in
     let source = v.terminal Source first in
     let sink = v.terminal Sink last in
-    subst (λ xs. Smallest (min m r) (source ∷ (xs ++ sink ∷ []))) (sym (map_more v.residual arcs i 0 inside)) (smallest_between m r sink (source ∷ map v.residual (take i arcs)) s)
-
-pub least_all : (v : Net) (first last : ℕ) (arcs : List ℕ) (i m : ℕ) → length arcs ≤ i → Smallest m (residuals v first (take i arcs) last) → Smallest m (residuals v first arcs last)
-least_all v first last arcs i m past s = subst (λ xs. Smallest m (residuals v first xs last)) (take_all i arcs past) s
+    rw (map_more v.residual arcs i 0 inside) (smallest_between m r sink (source ∷ map v.residual (take i arcs)) s)

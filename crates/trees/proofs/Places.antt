@@ -1,5 +1,5 @@
 -- Going through the places of a node: what holds of the arc at each place holds of every arc.
-use Rattle.std.proofs.Common.{◌≡◌, ℕ, ◌+◌, ◌<◌, ◌≤◌, length, Some, None, sym, ap, ◌∙◌, subst, ⊎_elim, arith}
+use Rattle.std.proofs.Common.{◌≡◌, ℕ, ◌+◌, ◌<◌, ◌≤◌, length, Some, None, sym, subst₂, ⊎_elim, arith}
 use Rattle.std.proofs.lemmas.Bool.{cases_eq}
 use Rattle.std.specs.List.{slice_get}
 use Rattle.network.specs.declared.terminal.Terminal.{Terminal}
@@ -8,7 +8,7 @@ use Rattle.network.specs.Nets.{Ends, Graph, LawfulGraph, reversed}
 use Rattle.network.specs.Sides.{near}
 use Rattle.network.proofs.Lists.{all_by_nth, nth_before}
 use Rattle.network.proofs.Pigeons.{pigeons}
-use Rattle.network.proofs.Laws.{one_ends, reverse_once}
+use Rattle.network.proofs.Laws.{reverse_once}
 
 -- the one of an arc and its reverse that stands at a place of the near end
 abbrev pub standing : Terminal → ℕ → Ends → ℕ
@@ -28,10 +28,9 @@ same_arc g Sink a b e d l at_a at_b same = reverse_once g a b e d l at_a at_b sa
 pub through_next : (g : Graph) (t : Terminal) (u k b : ℕ) (d : Ends) (P : ℕ → Ends → Type 0) → LawfulGraph g → g.ends b ≡ Some d → slice_get (g.arcs u) k ≡ Some (standing t b d) → Through g t u k P → P b d → Through g t u (k + 1) P
 through_next g t u k b d P l at_b place before this j a e below is from at = ⊎_elim
     (λ (now : j ≡ k).
-    let one : standing t a e ≡ standing t b d = let at_k : slice_get (g.arcs u) k ≡ Some (standing t a e) = subst (λ (i : ℕ). slice_get (g.arcs u) i ≡ Some (standing t a e)) now at in cc in
-    let arc = same_arc g t a b e d l is at_b one in
-    let ends : d ≡ e = one_ends g a d e (ap g.ends arc ∙ at_b) is in
-    subst (λ (x : Ends). P a x) ends (subst (λ (x : ℕ). P x d) (sym arc) this))
+    let arc = same_arc g t a b e d l is at_b (cc) in
+    let ends : d ≡ e = cc in
+    subst₂ P (sym arc) ends this)
     (λ (not : j ≡ k → ⊥). before j a e (omega arith) is from at)
     (cases_eq j k)
 
@@ -43,8 +42,7 @@ placed_at g Sink a e l is = l.placed e.reverse (reversed a e) (l.back a e is)
 pub through_all : (g : Graph) (t : Terminal) (u k : ℕ) (P : ℕ → Ends → Type 0) → LawfulGraph g → slice_get (g.arcs u) k ≡ None → Through g t u k P → (a : ℕ) (e : Ends) → g.ends a ≡ Some e → near t e ≡ u → P a e
 through_all g t u k P l past seen a e is from =
     let (j, at) = placed_at g t a e l is in
-    let here : slice_get (g.arcs u) j ≡ Some (standing t a e) = subst (λ (x : ℕ). slice_get (g.arcs x) j ≡ Some (standing t a e)) from at in
-    seen j a e (nth_before (g.arcs u) j k (standing t a e) past here) is from here
+    seen j a e (nth_before (g.arcs u) j k (standing t a e) past (cc)) is from (cc)
 
 -- codes are small and each stands once, so places are few
 pub few_places : (g : Graph) (u : ℕ) → LawfulGraph g → u < g.nodes → length (g.arcs u) ≤ 32768

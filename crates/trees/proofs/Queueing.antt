@@ -1,6 +1,5 @@
 -- Both queues hold what they say, with a node put into one of them and with the first picked from it.
-use Rattle.std.proofs.Common.{◌≡◌, ℕ, ◌+◌, ◌-◌, ◌<◌, Bool, true, false, sym, refl, ap, ◌∙◌, subst, subst₂, arith}
-use Rattle.std.proofs.lemmas.Bool.Decides.{nat_tests}
+use Rattle.std.proofs.Common.{◌≡◌, ℕ, ◌+◌, ◌-◌, ◌<◌, Bool, true, false, refl, subst, arith}
 use Rattle.network.specs.Nets.{at}
 use Rattle.trees.specs.declared.lane.Lanes.{Lanes}
 use Rattle.trees.specs.declared.ring.Ring.{Ring}
@@ -45,17 +44,9 @@ sound_picked f slot q l sound some =
 pub none_queued : (f : Forest) (slot : Lane → ℕ → ℕ) (q : Lanes Ring) (l : Lane) → Sound f slot q → (lane_of l q).count ≡ 0 → Empty f l
 none_queued f slot q l sound none = let held = sound l in tally_none f.size (f.queued l) (omega (arith, held.count))
 
--- a mark that is there already
-pub queued_already : (f : Forest) (l : Lane) (u : ℕ) → f.queued l u ≡ true → with_queued f l u true ≡ f
-queued_already f l u is =
-    let same : (k : ℕ) → at (f.queued l) u true k ≡ f.queued l k = λ k. grind (arith, nat_tests) in
-    let set : at (f.queued l) u true ≡ f.queued l = λ i k. same k i in
-    let lanes : (m : Lane) → at_lane f.queued l (at (f.queued l) u true) m ≡ f.queued m = λ m. ap (λ (x : ℕ → Bool). at_lane f.queued l x m) set ∙ at_lane_same f.queued l m in
-    λ i. record { size = f.size; tree = f.tree; parent = f.parent; queued = λ m. lanes m i; stage = f.stage }
-
 -- a table and rings that mean the same
 pub sound_is : {f g : Forest} {slot places : Lane → ℕ → ℕ} {q r : Lanes Ring} → f ≡ g → slot ≡ places → q ≡ r → Sound g places r → Sound f slot q
-sound_is {f = f} {g = g} {slot = slot} {places = places} {q = q} {r = r} forests slots rings sound = subst (λ (x : Lanes Ring). Sound f slot x) (sym rings) (subst₂ (λ (x : Forest) (y : Lane → ℕ → ℕ). Sound x y r) (sym forests) (sym slots) sound)
+sound_is forests slots rings sound = rw (forests, slots, rings) sound
 
 -- there is a place for a node that is not queued
 pub put_room : (f : Forest) (slot : Lane → ℕ → ℕ) (q : Lanes Ring) (l : Lane) (u : ℕ) → Sound f slot q → u < f.size → f.queued l u ≡ false → (lane_of l q).count < f.size

@@ -1,5 +1,5 @@
 -- The climb that remembers all nodes on its way: what holds at each of them.
-use Rattle.std.proofs.Common.{◌≡◌, ℕ, ◌<◌, Some, sym, ap, subst}
+use Rattle.std.proofs.Common.{◌≡◌, ℕ, ◌<◌, Some, ap}
 use Rattle.network.specs.declared.terminal.Terminal.{Terminal}
 use Rattle.network.specs.Nets.{Net, Lawful, ends_of}
 use Rattle.network.specs.Sides.{near}
@@ -21,19 +21,19 @@ pub record Remembering (v : Net) (t : Terminal) (stage : ℕ) (f₀ f : Forest) 
   pub mine : f.tree u ≡ Some t
   pub anchored : Anchored v.graph f.parent t u
 
-pub remembering_marked : (v : Net) (t : Terminal) (stage : ℕ) (f₀ f f₁ : Forest) (u : ℕ) → Remembering v t stage f₀ f u → f₁ ≡ with_stage f u stage → Noted v stage f₀ f₁
-remembering_marked v t stage f₀ f f₁ u r is =
-    subst (Noted v stage f₀) (sym is) (record {
+pub remembering_marked : {v : Net} {t : Terminal} {stage : ℕ} {f₀ f f₁ : Forest} {u : ℕ} → Remembering v t stage f₀ f u → f₁ ≡ with_stage f u stage → Noted v stage f₀ f₁
+remembering_marked {v = v} {t = t} {stage = stage} {f = f} {u = u} r is =
+    rw is (record {
       survey = survey_stage v f stage t u r.noted.survey r.mine r.anchored;
       only = ap (λ (x : Forest). with_stage x u stage) r.noted.only;
     })
 
-pub remembering_on : (v : Net) (t : Terminal) (stage : ℕ) (f₀ f f₁ : Forest) (u a w : ℕ) → Lawful v → Remembering v t stage f₀ f u → f₁ ≡ with_stage f u stage → f.parent u ≡ Along a → w ≡ near t (ends_of v.graph a) → Remembering v t stage f₀ f₁ w
-remembering_on v t stage f₀ f f₁ u a w l r is at to =
-    let step = step_up v f stage t u a w l r.noted.survey r.there r.mine at to in
+pub remembering_on : {v : Net} {t : Terminal} {stage : ℕ} {f₀ f f₁ : Forest} {u w : ℕ} (a : ℕ) → Lawful v → Remembering v t stage f₀ f u → f₁ ≡ with_stage f u stage → f.parent u ≡ Along a → w ≡ near t (ends_of v.graph a) → Remembering v t stage f₀ f₁ w
+remembering_on a l r is at to =
+    let step = step_up a l r.noted.survey r.there r.mine at to in
     record {
-      noted = remembering_marked v t stage f₀ f f₁ u r is;
+      noted = remembering_marked r is;
       there = step.there;
-      mine = subst (λ (x : Forest). x.tree w ≡ Some t) (sym is) step.mine;
-      anchored = subst (λ (x : Forest). Anchored v.graph x.parent t w) (sym is) (step.above r.anchored);
+      mine = rw is step.mine;
+      anchored = rw is (step.above r.anchored);
     }

@@ -1,12 +1,11 @@
 -- A ring with a node put behind its last, and with its first taken away.
-use Rattle.std.proofs.Common.{◌≡◌, ℕ, ◌+◌, ◌-◌, ◌<◌, ◌≤◌, Bool, true, false, ◌⊎◌, sym, refl, ap, ◌∙◌, subst, inl, inr, ⊎_elim, arith}
-use Rattle.std.proofs.lemmas.Bool.{both_ways, cases_eq}
+use Rattle.std.proofs.Common.{◌≡◌, ℕ, ◌+◌, ◌-◌, ◌<◌, ◌≤◌, Bool, true, false, sym, refl, ap, arith}
+use Rattle.std.proofs.lemmas.Bool.{both_ways}
 use Rattle.std.proofs.lemmas.Bool.Decides.{nat_tests}
 use Rattle.network.specs.Nets.{at}
 use Rattle.trees.specs.declared.ring.Ring.{Ring}
 use Rattle.trees.specs.Forests.{empty_ring}
 use Rattle.trees.specs.Rings.{wrap, Held}
-use Rattle.trees.proofs.Points.{at_here, at_else}
 use Rattle.trees.proofs.Tallies.{tally_le, tally_more, tally_less, tally_empty}
 
 -- the places of a ring lie in the table, and none is another
@@ -38,39 +37,14 @@ held_more n m slot r u held there new =
     let more = tally_more n m u there new in
     let room : c < n = omega (arith, tally_le n (at m u true), held.count) in
     let place : ℕ → ℕ = λ i. wrap n (h + i) in
-    let slot' : ℕ → ℕ = at slot (place c) u in
-    let apart : (i : ℕ) → i < c → place i ≡ place c → ⊥ = λ i small same. omega (arith, wrap_apart n h i c held.inside (omega arith) room same) in
-    let holds : (i : ℕ) → i < c + 1 → ((i ≡ c) × (slot' (place i) ≡ u)) ⊎ ((i < c) × (slot' (place i) ≡ slot (place i))) = λ i small.
-    ⊎_elim
-    (λ (is : i ≡ c). inl (is, rw is (at_here slot (place c) u (place c) refl)))
-    (λ (not : i ≡ c → ⊥). let old : i < c = omega arith in inr (old, at_else slot (place c) u (place i) (apart i old)))
-    (cases_eq i c) in
-    let kept : (k : ℕ) → m k ≡ true → at m u true k ≡ true = λ k is. grind (arith, nat_tests) in
-    let other : (i : ℕ) → i < c → slot (place i) ≡ u → ⊥ = λ i small same. both_ways (m u) new (subst (λ x. m x ≡ true) same (held.marked i small)) in
+    let last : (i : ℕ) → i < c + 1 → place i ≡ place c → i ≡ c = λ i small same. wrap_apart n h i c held.inside (omega arith) room same in
+    let other : (i : ℕ) → i < c → slot (place i) ≡ u → ⊥ = λ i small same. both_ways (m u) new (rw (← same) (held.marked i small)) in
     record {
       inside = held.inside;
       count = omega (arith, held.count);
-      there = λ i small.
-          ⊎_elim
-          (λ p. subst (λ x. x < n) (sym p.1) there)
-          (λ p. subst (λ x. x < n) (sym p.1) (held.there i p.0))
-          (holds i small);
-      marked = λ i small.
-          ⊎_elim
-          (λ p. subst (λ x. at m u true x ≡ true) (sym p.1) (at_here m u true u refl))
-          (λ p. subst (λ x. at m u true x ≡ true) (sym p.1) (kept (slot (place i)) (held.marked i p.0)))
-          (holds i small);
-      distinct = λ i j small_i small_j same.
-          ⊎_elim
-          (λ p. ⊎_elim
-          (λ q. p.0 ∙ sym q.0)
-          (λ q. absurd (other j q.0 (sym q.1 ∙ sym same ∙ p.1)))
-          (holds j small_j))
-          (λ p. ⊎_elim
-          (λ q. absurd (other i p.0 (sym p.1 ∙ same ∙ q.1)))
-          (λ q. held.distinct i j p.0 q.0 (sym p.1 ∙ same ∙ q.1))
-          (holds j small_j))
-          (holds i small_i);
+      there = λ i small. grind (arith, nat_tests, held.there i);
+      marked = λ i small. grind (arith, nat_tests, held.marked i);
+      distinct = λ i j small_i small_j same. grind (arith, nat_tests, held.distinct i j, last i, last j, other i, other j);
     }
 
 -- the first place left out, with its node no longer marked
@@ -85,9 +59,9 @@ held_less n m slot r held some =
     let next : (i : ℕ) → i < c - 1 → slot (wrap n (wrap n (h + 1) + i)) ≡ slot (place (i + 1)) = λ i small. ap slot (wrap_next n h i held.inside (omega arith)) in
     let other : (i : ℕ) → i + 1 < c → slot (place (i + 1)) ≡ u → ⊥ = λ i small same. omega (arith, held.distinct (i + 1) 0 small some same) in
     record {
-      inside = let one : 0 < n = omega arith in let within = held.inside in grind (arith, nat_tests);
+      inside = grind (arith, nat_tests, held.inside);
       count = omega (arith, held.count);
-      there = λ i small. subst (λ x. x < n) (sym (next i small)) (held.there (i + 1) (omega arith));
-      marked = λ i small. subst (λ x. at m u false x ≡ true) (sym (next i small)) (at_else m u false (slot (place (i + 1))) (other i (omega arith)) ∙ held.marked (i + 1) (omega arith));
-      distinct = λ i j small_i small_j same. omega (arith, held.distinct (i + 1) (j + 1) (omega arith) (omega arith) (sym (next i small_i) ∙ same ∙ next j small_j));
+      there = λ i small. rw (next i small) (held.there (i + 1) (omega arith));
+      marked = λ i small. rw (next i small) (grind (arith, nat_tests, other i, held.marked (i + 1)));
+      distinct = λ i j small_i small_j same. omega (arith, held.distinct (i + 1) (j + 1) (omega arith) (omega arith) (cc (next i small_i, next j small_j)));
     }

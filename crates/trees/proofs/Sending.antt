@@ -1,24 +1,24 @@
 -- The trees while a path is carried out: amounts shifted along its arcs and taken at its ends.
-use Rattle.std.proofs.Common.{◌≡◌, ℕ, ◌-◌, ◌<◌, ◌≤◌, true, Some, sym, refl, ap, ◌∙◌, subst, inl, inr, ⊎_elim, arith}
+use Rattle.std.proofs.Common.{◌≡◌, ℕ, ◌-◌, ◌<◌, ◌≤◌, Some, sym, refl, ap, ◌∙◌, subst₂, inl, inr, ⊎_elim, arith}
 use Rattle.std.proofs.lemmas.Bool.{cases_eq}
+use Rattle.std.proofs.lemmas.Bool.Decides.{nat_tests}
 use Rattle.network.specs.declared.terminal.Terminal.{Terminal}
 use Rattle.network.specs.declared.terminal.Terminal.TheVariants.{Source, Sink}
 use Rattle.network.specs.Nets.{Ends, Net, Lawful, reversed, taken, shifted}
 use Rattle.network.specs.Sides.{near, far}
 use Rattle.network.proofs.Laws.{one_ends, residuals, taken_le}
-use Rattle.trees.specs.declared.lane.Lane.TheVariants.{Orphans}
 use Rattle.trees.specs.declared.work.Parent.TheVariants.{Orphan, Along}
 use Rattle.trees.specs.Forests.{Forest, orphaned}
 use Rattle.trees.specs.Trees.{Branch, Trees, Onward}
-use Rattle.trees.proofs.Points.{source_sink, at_here, at_else, one_tree}
+use Rattle.trees.proofs.Points.{at_here, at_else}
 use Rattle.trees.proofs.Hanging.{hang_cut, cut_root, cut_along}
 
 -- the reverse of an onward arc leads out of no tree
 back_inside : (f : Forest) (t : Terminal) (a : ℕ) (e : Ends) → Onward f e → f.tree (near t (reversed a e)) ≡ Some t → f.tree (far t (reversed a e)) ≡ Some t
-back_inside f Source a e (inl (s, tail, head)) in_near = tail ∙ ap (λ (x : Terminal). Some x) (one_tree (f.tree e.head) s Source head in_near)
-back_inside f Sink a e (inl (s, tail, head)) in_near = head ∙ ap (λ (x : Terminal). Some x) (one_tree (f.tree e.tail) s Sink tail in_near)
-back_inside f Source a e (inr (tail, head)) in_near = source_sink (one_tree (f.tree e.head) Source Sink in_near head)
-back_inside f Sink a e (inr (tail, head)) in_near = source_sink (one_tree (f.tree e.tail) Source Sink tail in_near)
+back_inside f Source a e (inl (s, tail, head)) in_near = cc
+back_inside f Sink a e (inl (s, tail, head)) in_near = cc
+back_inside f Source a e (inr (tail, head)) in_near = cc
+back_inside f Sink a e (inr (tail, head)) in_near = cc
 
 -- an onward arc carries x; if that empties it, nobody hangs from it
 pub shift_trees : (v : Net) (f : Forest) (a x : ℕ) (e : Ends) → Lawful v → Trees v f → v.graph.ends a ≡ Some e → Onward f e → (v.residual a ≡ x → (t : Terminal) (u : ℕ) → Branch v f t u a e → f.tree u ≡ Some t → f.parent u ≡ Along a → ⊥) → x ≤ v.residual a → Trees (shifted v a x) f
@@ -26,20 +26,8 @@ shift_trees v f a x e l h is onward held less =
     let now = residuals v a x e l is in
     let after : ℕ → ℕ = (shifted v a x).residual in
     let before : ℕ → ℕ = v.residual in
-    let left : (b : ℕ) → (b ≡ a → v.residual a ≡ x → ⊥) → 0 < before b → 0 < after b = λ b full some. ⊎_elim
-    (λ (same : b ≡ a). ⊎_elim
-    (λ (all : v.residual a ≡ x). absurd (full same all))
-    (λ (more : v.residual a ≡ x → ⊥). omega (arith, ap after same, now.arc))
-    (cases_eq (v.residual a) x))
-    (λ (not : b ≡ a → ⊥). ⊎_elim
-    (λ (back : b ≡ e.reverse). omega (arith, ap after back, ap before back, now.back))
-    (λ (else : b ≡ e.reverse → ⊥). omega (arith, now.others b not else))
-    (cases_eq b e.reverse))
-    (cases_eq b a) in
-    let old : (b : ℕ) → (b ≡ e.reverse → ⊥) → 0 < after b → 0 < before b = λ b not some. ⊎_elim
-    (λ (same : b ≡ a). omega (arith, ap after same, ap before same, now.arc))
-    (λ (else : b ≡ a → ⊥). omega (arith, now.others b else not))
-    (cases_eq b a) in
+    let left : (b : ℕ) → (b ≡ a → v.residual a ≡ x → ⊥) → 0 < before b → 0 < after b = λ b full some. grind (arith, cases_eq b a, cases_eq b e.reverse, cases_eq (v.residual a) x, full, now.arc, now.back, now.others b) in
+    let old : (b : ℕ) → (b ≡ e.reverse → ⊥) → 0 < after b → 0 < before b = λ b not some. grind (arith, cases_eq b a, not, now.arc, now.others b) in
     record {
       size = h.size;
       roots = h.roots;
@@ -48,13 +36,13 @@ shift_trees v f a x e l h is onward held less =
           let (d, br) = h.parents t u b there in_tree at_u in
           let full : b ≡ a → v.residual a ≡ x → ⊥ = λ same all.
           let ends = one_ends v.graph a d e (ap v.graph.ends (sym same) ∙ br.ends) is in
-          held all t u (subst (λ (y : ℕ). Branch v f t u y e) same (subst (λ (y : Ends). Branch v f t u b y) ends br)) in_tree (at_u ∙ ap (λ (y : ℕ). Along y) same) in
+          held all t u (subst₂ (Branch v f t u) same ends br) in_tree (cc) in
           (d, record { ends = br.ends; child = br.child; positive = left b full br.positive; same_tree = br.same_tree });
       hangs = h.hangs;
       frontier = λ t b d at_b some in_tree. ⊎_elim
           (λ (back : b ≡ e.reverse).
           let ends : d ≡ reversed a e = one_ends v.graph b d (reversed a e) at_b (ap v.graph.ends back ∙ l.graph.back a e is) in
-          inl (subst (λ (y : Ends). f.tree (near t y) ≡ Some t → f.tree (far t y) ≡ Some t) (sym ends) (back_inside f t a e onward) in_tree))
+          inl (rw ends (back_inside f t a e onward (rw ends at in_tree))))
           (λ (not : b ≡ e.reverse → ⊥). h.frontier t b d at_b (old b not some) in_tree)
           (cases_eq b e.reverse);
       orphans = h.orphans;
@@ -81,26 +69,18 @@ take_part_trees v f t u x h less =
     record {
       size = h.size;
       roots = λ s w there some. h.roots s w there (omega (arith, taken_le v t s u x w));
-      rooted = λ s w there in_tree root.
-          let old = h.rooted s w there in_tree root in
-          ⊎_elim
-          (λ (same : w ≡ u). by s w same old)
-          (λ (not : w ≡ u → ⊥). omega (arith, taken_else v t s u x w (λ _. not)))
-          (cases_eq w u);
+      rooted = λ s w there in_tree root. positive t s w less (h.rooted s w there in_tree root);
       parents = λ s w a there in_tree at. let (e, b) = h.parents s w a there in_tree at in (e, branch_taken v f f t s u x w a e b refl);
       hangs = h.hangs;
       frontier = h.frontier;
       orphans = h.orphans;
     }
   where
-    positive : (t s : Terminal) → (x : ℕ) → x < v.terminal t u → 0 < v.terminal s u → 0 < (taken v t u x).terminal s u
-    positive Source Source x less old = omega (arith, taken_here v Source u x)
-    positive Source Sink x less old = old
-    positive Sink Source x less old = old
-    positive Sink Sink x less old = omega (arith, taken_here v Sink u x)
-
-    by : (s : Terminal) (w : ℕ) → w ≡ u → 0 < v.terminal s w → 0 < (taken v t u x).terminal s w
-    by s w same old = subst (λ (y : ℕ). 0 < v.terminal s y → 0 < (taken v t u x).terminal s y) (sym same) (positive t s x less) old
+    positive : (t s : Terminal) (w : ℕ) → x < v.terminal t u → 0 < v.terminal s w → 0 < (taken v t u x).terminal s w
+    positive Source Source w less old = grind (arith, nat_tests)
+    positive Source Sink w less old = old
+    positive Sink Source w less old = old
+    positive Sink Sink w less old = grind (arith, nat_tests)
 
 -- all is taken at a terminal, and the node loses its parent
 pub take_all_trees : (v : Net) (f : Forest) (t : Terminal) (u x : ℕ) → Trees v f → u < v.graph.nodes → 0 < v.terminal t u → v.terminal t u ≡ x → Trees (taken v t u x) (orphaned f u)
@@ -111,8 +91,8 @@ take_all_trees v f t u x h here-there some all =
       roots = λ s w there left.
           let (in_tree, is) = h.roots s w there (omega (arith, taken_le v t s u x w)) in
           let apart : w ≡ u → ⊥ = λ same.
-          let side : s ≡ t = one_tree (f.tree u) s t (ap f.tree (sym same) ∙ in_tree) mine in
-          let none : 0 < (taken v t u x).terminal t u = subst (λ (y : Terminal). 0 < (taken v t u x).terminal y u) side (subst (λ (y : ℕ). 0 < (taken v t u x).terminal s y) same left) in
+          let side : s ≡ t = cc in
+          let none = subst₂ (λ (y : Terminal) (z : ℕ). 0 < (taken v t u x).terminal y z) side same left in
           omega (arith, taken_here v t u x) in
           (in_tree, at_else f.parent u Orphan w apart ∙ is);
       rooted = λ s w there in_tree is.
@@ -123,8 +103,5 @@ take_all_trees v f t u x h here-there some all =
           (e, branch_taken v f (orphaned f u) t s u x w a e b refl);
       hangs = λ s w there in_tree. let (top, arcs, climb, ends) = h.hangs s w there in_tree in hang_cut v.graph f.parent s u w top arcs climb ends;
       frontier = h.frontier;
-      orphans = λ s w there in_tree is. ⊎_elim
-          (λ (same : w ≡ u). at_here (f.queued Orphans) u true w same)
-          (λ (not : w ≡ u → ⊥). at_else (f.queued Orphans) u true w not ∙ h.orphans s w there in_tree (sym (at_else f.parent u Orphan w not) ∙ is))
-          (cases_eq w u);
+      orphans = λ s w there in_tree is. grind (arith, nat_tests, h.orphans s w there in_tree);
     }

@@ -17,8 +17,8 @@ pub record Above (v : Net) (f : Forest) (t : Terminal) (u a r : ℕ) : Type 0 wh
   pub below : Anchored v.graph f.parent t r → Anchored v.graph f.parent t u
   pub above : Anchored v.graph f.parent t u → Anchored v.graph f.parent t r
 
-pub step_up : (v : Net) (f : Forest) (s : ℕ) (t : Terminal) (u a r : ℕ) → Lawful v → Survey v f s → u < v.graph.nodes → f.tree u ≡ Some t → f.parent u ≡ Along a → r ≡ near t (ends_of v.graph a) → Above v f t u a r
-step_up v f s t u a r l h there mine at is =
+pub step_up : {v : Net} {f : Forest} {s : ℕ} {t : Terminal} {u r : ℕ} (a : ℕ) → Lawful v → Survey v f s → u < v.graph.nodes → f.tree u ≡ Some t → f.parent u ≡ Along a → r ≡ near t (ends_of v.graph a) → Above v f t u a r
+step_up {v = v} {f = f} {t = t} {u = u} {r = r} a l h there mine at is =
     let (e, b) = h.parents t u a there mine at in
     let to : near t e ≡ r = sym (is ∙ ap (near t) (ends_are v.graph a e b.ends)) in
     subst (Above v f t u a) to (record {

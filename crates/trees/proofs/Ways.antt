@@ -1,7 +1,7 @@
 -- The loop that sends an amount along the arcs of a way: what holds before each arc.
-use Rattle.std.proofs.Common.{◌≡◌, ℕ, suc, ◌+◌, ◌<◌, ◌≤◌, List, ◌∷◌, length, get_or, drop, sym, refl, ap, ◌∙◌, subst}
-use Rattle.std.proofs.lemmas.List.{drop_all, drop_more}
-use Rattle.network.specs.Nets.{Ends, Net, Lawful, Distinct, shifted}
+use Rattle.std.proofs.Common.{◌≡◌, ℕ, suc, ◌+◌, ◌<◌, ◌≤◌, List, ◌∷◌, length, get_or, drop, refl, subst}
+use Rattle.std.proofs.lemmas.List.{drop_more}
+use Rattle.network.specs.Nets.{Net, Lawful, Distinct, shifted}
 use Rattle.network.specs.Paths.{Path, passed, Augmenting, shifted_along}
 use Rattle.network.proofs.Lists.{distinct_more}
 use Rattle.network.proofs.Laws.{ends_are}
@@ -35,7 +35,7 @@ way_rest : (v : Net) (f f' : Forest) (a x : ℕ) (more : List ℕ) → Lawful v 
 way_rest v f f' a x more l same w =
     let g = v.graph in
     let (e, is, from, rest) = w.chain in
-    let apart : Distinct (w.first ∷ passed g e.head more) = subst (λ (y : Ends). Distinct (w.first ∷ passed g y.head more)) (ends_are g a e is) w.distinct in
+    let apart : Distinct (w.first ∷ passed g e.head more) = rw (← ends_are g a e is) w.distinct in
     record {
       first = e.head;
       chain = rest;
@@ -48,21 +48,15 @@ way_rest v f f' a x more l same w =
 way_here : (v₁ : Net) (arcs : List ℕ) (x i : ℕ) (v : Net) (f : Forest) → i < length arcs → Sending v₁ arcs x i v f → Way v f x (get_or arcs i 0 ∷ drop (i + 1) arcs)
 way_here v₁ arcs x i v f inside s = subst (Way v f x) (drop_more arcs i 0 inside) s.way
 
-pub sending_next : (v₁ : Net) (arcs : List ℕ) (x i : ℕ) (v : Net) (f : Forest) → i < length arcs → Sending v₁ arcs x i v f → OnwardArc v f (get_or arcs i 0) × (x ≤ v.residual (get_or arcs i 0))
-sending_next v₁ arcs x i v f inside s = way_first v f (get_or arcs i 0) x (drop (i + 1) arcs) (way_here v₁ arcs x i v f inside s)
+pub sending_next : {v₁ : Net} {arcs : List ℕ} {x i : ℕ} {v : Net} {f : Forest} → i < length arcs → Sending v₁ arcs x i v f → OnwardArc v f (get_or arcs i 0) × (x ≤ v.residual (get_or arcs i 0))
+sending_next inside s = way_first _ _ _ _ _ (way_here _ _ _ _ _ _ inside s)
 
-pub sending_none : (v : Net) (arcs : List ℕ) (x : ℕ) (f : Forest) → Trees v f → Way v f x arcs → Sending v arcs x 0 v f
-sending_none v arcs x f h w = record { trees = h; whole = refl; way = w }
-
-pub sending_more : (v₁ : Net) (arcs : List ℕ) (x i : ℕ) (v v' : Net) (f f' : Forest) → Lawful v → i < length arcs → v' ≡ shifted v (get_or arcs i 0) x → Trees v' f' → f'.tree ≡ f.tree → Sending v₁ arcs x i v f → Sending v₁ arcs x (i + 1) v' f'
-sending_more v₁ arcs x i v v' f f' l inside value h same s =
+pub sending_more : {v₁ : Net} {arcs : List ℕ} {x i : ℕ} {v v' : Net} {f f' : Forest} → Lawful v → i < length arcs → v' ≡ shifted v (get_or arcs i 0) x → Trees v' f' → f'.tree ≡ f.tree → Sending v₁ arcs x i v f → Sending v₁ arcs x (i + 1) v' f'
+sending_more {v₁ = v₁} {arcs = arcs} {x = x} {i = i} {v = v} {f = f} {f' = f'} l inside value h same s =
     let a = get_or arcs i 0 in
     let more = drop (i + 1) arcs in
     record {
       trees = h;
-      whole = ap (λ (y : Net). shifted_along y more x) value ∙ sym (ap (λ (ys : List ℕ). shifted_along v ys x) (drop_more arcs i 0 inside)) ∙ s.whole;
-      way = subst (λ (y : Net). Way y f' x more) (sym value) (way_rest v f f' a x more l same (way_here v₁ arcs x i v f inside s));
+      whole = rw value (rw (drop_more arcs i 0 inside) at s.whole);
+      way = rw value (way_rest v f f' a x more l same (way_here v₁ arcs x i v f inside s));
     }
-
-pub sending_ends : (v₁ : Net) (arcs : List ℕ) (x i : ℕ) (v : Net) (f : Forest) → length arcs ≤ i → Sending v₁ arcs x i v f → v ≡ shifted_along v₁ arcs x
-sending_ends v₁ arcs x i v f past s = sym (ap (λ (ys : List ℕ). shifted_along v ys x) (drop_all i arcs past)) ∙ s.whole

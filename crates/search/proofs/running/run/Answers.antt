@@ -1,6 +1,4 @@
-use Rattle.std.proofs.Common.{◌≡◌, ℕ, ◌++◌, length, drop, Some, None, Ok, Err, Result, sym, refl, ap, ◌∙◌, subst, rules}
-use Rattle.search.specs.declared.refusal.RunRefusal.{RunRefusal}
-use Rattle.search.specs.declared.report.Report.{Report}
+use Rattle.std.proofs.Common.{◌≡◌, ◌++◌, length, drop, Some, None, Ok, Err, sym, refl, subst, rules}
 use Rattle.search.specs.Refusals.{first_refusal}
 use Rattle.search.specs.Runs.{Lent, refused, Run, Promise}
 use Rattle.search.proofs.Outcomes.{enough, ran}
@@ -19,18 +17,16 @@ returns g c =
     let (records, bytes) = enough m (length before.work) (length before.marks) none in
     let long : length c.search.new.work ≡ m = search rules in
     let wide : length c.search.new.marks ≡ m = search rules in
-    let yes : refused v.graph.nodes before ≡ None = ap (λ (n : ℕ). refused n before) (sym c.node_count-count.ensures) ∙ none in
+    let yes : refused v.graph.nodes before ≡ None = rw (← c.node_count-count.ensures) none in
     let run : Run v before (Ok c.search.result) w after = (yes, ps, ran v w before c.search.result c.search.new.work c.search.new.trail c.search.new.marks ps m (g.N.Network.lawful c.args.net.now) c.node_count-count.ensures records bytes long wide logged c.search.ensures.ended) in
     record { ran = run; promise = promised v before (Ok c.search.result) w after run }
 
-pub returns-in_err-check : goal.returns-in_err-check
-returns-in_err-check g c =
+pub returns-in_err-check-clause-promise : goal.returns-in_err-check-clause-promise
+returns-in_err-check-clause-promise g c =
     let v = g.N.Network.value c.args.net.now in
     let lent : Lent = record { work = c.args.work.now; trail = c.args.trail.now; marks = c.args.marks.now } in
     let e = c.in_err-check.field-0.0 in
     let some : first_refusal c.node_count-count.result (length lent.work) (length lent.marks) ≡ Some e = search rules in
-    let no : refused v.graph.nodes lent ≡ Some e = ap (λ (n : ℕ). refused n lent) (sym c.node_count-count.ensures) ∙ some in
+    let no : refused v.graph.nodes lent ≡ Some e = rw (← c.node_count-count.ensures) some in
     let is : c.from_residual.result ≡ Err e = search rules in
-    let Told : Result Report RunRefusal → Type 0 = λ r. Run v lent r v lent × Promise v r v lent in
-    let told = subst Told (sym is) ((no, refl, refl), promised v lent (Err e) v lent (no, refl, refl)) in
-    record { ran = told.0; promise = told.1 }
+    subst (λ r. Promise v r v lent) (sym is) (promised v lent (Err e) v lent (no, refl, refl))

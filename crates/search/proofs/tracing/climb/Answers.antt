@@ -1,6 +1,6 @@
 use Rattle.std.proofs.Common.{◌<◌, length, arith, rules}
 use Rattle.trees.proofs.Climbs.{climb_stays}
-use Rattle.search.proofs.Climbing.{rising_none, rising_fits, rising_more, rising_ends}
+use Rattle.search.proofs.Climbing.{rising_none, rising_fits, rising_more}
 use Rattle.search.specs.Tables.{forest_of}
 use Rattle.search.proofs.tracing.climb.Given as given
 use Rattle.search.proofs.tracing.climb.Goals as goal
@@ -17,23 +17,14 @@ step_up-requires g c =
 -- there is room for one arc more
 room : (g : given.Over) (c : goal.In-Some g) → c.loop-hop.steps < length c.loop-hop.arcs
 room g c =
-    let less : c.loop-hop.steps < length c.args.arcs.now = rising_fits (g.N.Network.value c.args.net.now) (forest_of c.args.table.now) c.args.terminal c.args.node c.args.arcs.now c.loop-hop.arcs c.loop-hop.steps c.loop-hop.at c.in-Some.hop c.requires.room c.in-Some.ensures c.loop-hop.invariant in
+    let less : c.loop-hop.steps < length c.args.arcs.now = rising_fits c.in-Some.hop c.requires.room c.in-Some.ensures c.loop-hop.invariant in
     omega arith
-
-pub offset_bounds-arcs-steps : goal.offset_bounds-arcs-steps
-offset_bounds-arcs-steps g c = let less = room g c in search rules
 
 pub bounds-arcs-steps : goal.bounds-arcs-steps
 bounds-arcs-steps g c = room g c
-
-pub overflow_add-steps : goal.overflow_add-steps
-overflow_add-steps g c = let less = room g c in search rules
 
 pub loop-hop-smaller : goal.loop-hop-smaller
 loop-hop-smaller g c = let less = room g c in search rules
 
 pub loop-hop-preserved : goal.loop-hop-preserved
-loop-hop-preserved g c = rising_more (g.N.Network.value c.args.net.now) (forest_of c.args.table.now) c.args.terminal c.args.node c.args.arcs.now c.loop-hop.arcs c.loop-hop.steps c.loop-hop.at c.in-Some.hop c.requires.room c.in-Some.ensures c.loop-hop.invariant
-
-pub returns : goal.returns
-returns g c = rising_ends (g.N.Network.value c.args.net.now) (forest_of c.args.table.now) c.args.terminal c.args.node c.args.arcs.now c.loop-hop.arcs c.loop-hop.steps c.loop-hop.at c.in_default.ensures c.loop-hop.invariant
+loop-hop-preserved g c = rising_more c.in-Some.hop c.requires.room c.in-Some.ensures c.loop-hop.invariant

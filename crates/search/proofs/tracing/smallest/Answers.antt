@@ -1,27 +1,17 @@
-use Rattle.std.proofs.Common.{◌≡◌, ◌+◌, min, get_or, take, sym, subst}
-use Rattle.std.proofs.ByRecursion.{All-get_or}
+use Rattle.std.proofs.Common.{◌≡◌, min, get_or}
 use Rattle.network.specs.declared.terminal.Terminal.TheVariants.{Source, Sink}
-use Rattle.network.specs.Paths.{Smallest}
-use Rattle.trees.specs.Trees.{There}
-use Rattle.trees.specs.Climbs.{residuals}
-use Rattle.trees.proofs.Least.{least_none, least_more, least_all}
+use Rattle.trees.proofs.Least.{least_none, least_more}
 use Rattle.search.proofs.tracing.smallest.Goals as goal
 
 pub loop-arc-init : goal.loop-arc-init
 loop-arc-init g c =
     let v = g.N.Network.value c.args.net.now in
     let is : c.min-least.result ≡ min (v.terminal Source c.args.first) (v.terminal Sink c.args.last) = cc in
-    subst (λ m. Smallest m (residuals v c.args.first (take 0 c.args.arcs.now) c.args.last)) (sym is) (least_none v c.args.first c.args.last c.args.arcs.now)
-
-pub residual-requires : goal.residual-requires
-residual-requires g c = All-get_or (There (g.N.Network.value c.args.net.now).graph) c.args.arcs.now c.loop-arc.arc-index 0 c.loop-arc-test.true c.requires.arcs
+    rw is (least_none v c.args.first c.args.last c.args.arcs.now)
 
 pub loop-arc-preserved : goal.loop-arc-preserved
 loop-arc-preserved g c =
     let v = g.N.Network.value c.args.net.now in
     let i = c.loop-arc.arc-index in
     let is : c.min-least-in-loop-arc.result ≡ min c.loop-arc.least (v.residual (get_or c.args.arcs.now i 0)) = cc in
-    subst (λ m. Smallest m (residuals v c.args.first (take (i + 1) c.args.arcs.now) c.args.last)) (sym is) (least_more v c.args.first c.args.last c.args.arcs.now i c.loop-arc.least c.loop-arc-test.true c.loop-arc.invariant)
-
-pub returns : goal.returns
-returns g c = least_all (g.N.Network.value c.args.net.now) c.args.first c.args.last c.args.arcs.now c.loop-arc.arc-index c.loop-arc.least c.loop-arc-test.false c.loop-arc.invariant
+    rw is (least_more v c.args.first c.args.last c.args.arcs.now i c.loop-arc.least c.loop-arc-test.true c.loop-arc.invariant)

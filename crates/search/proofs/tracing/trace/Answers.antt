@@ -1,54 +1,22 @@
-use Rattle.std.proofs.Common.{◌≤◌, length, sym, subst, arith, rules}
-use Rattle.std.specs.List.{AllByRecursion}
-use Rattle.network.specs.Paths.{Smallest}
-use Rattle.trees.specs.Trees.{There}
-use Rattle.trees.specs.Climbs.{residuals}
+use Rattle.std.proofs.Common.{◌≤◌, length, arith}
 use Rattle.trees.proofs.Writing.{three_words, read_after_three}
 use Rattle.trees.proofs.Crossing.{some_node, way_there}
 use Rattle.search.proofs.Climbing.{traced}
 use Rattle.search.specs.Tables.{forest_of}
 use Rattle.search.proofs.tracing.trace.Goals as goal
 
-pub slice_bounds-trace_arcs-count : goal.slice_bounds-trace_arcs-count
-slice_bounds-trace_arcs-count g c =
-    let some = some_node _ _ _ (g.N.Network.lawful c.args.net.now) c.requires.bridge in
-    search rules
-
-pub slice_bounds-trace_arcs-start : goal.slice_bounds-trace_arcs-start
-slice_bounds-trace_arcs-start g c =
-    let some = some_node _ _ _ (g.N.Network.lawful c.args.net.now) c.requires.bridge in
-    search rules
-
-pub overflow_add-count : goal.overflow_add-count
-overflow_add-count g c =
-    let (arcs, count, way, written) = c.trace_arcs-count.ensures in
-    let there = way_there _ _ _ _ _ (g.N.Network.lawful c.args.net.now) way in
-    search rules
-
-pub slice_bounds-smallest-end : goal.slice_bounds-smallest-end
-slice_bounds-smallest-end g c =
-    let (arcs, count, way, written) = c.trace_arcs-count.ensures in
-    let there = way_there _ _ _ _ _ (g.N.Network.lawful c.args.net.now) way in
-    search rules
-
 pub smallest-amount-requires : goal.smallest-amount-requires
 smallest-amount-requires g c =
-    let v = g.N.Network.value c.args.net.now in
     let l = g.N.Network.lawful c.args.net.now in
     let (arcs, count, way, written) = c.trace_arcs-count.ensures in
-    let there = way_there _ _ _ _ _ l way in
-    let some = some_node _ _ _ l c.requires.bridge in
+    let there = way_there l way in
+    let some = some_node l c.requires.bridge in
     let room : 3 ≤ length c.args.words.now = omega arith in
     record {
       first = there.first_there;
       last = there.last_there;
-      arcs = subst (AllByRecursion (There v.graph)) (sym (read_after_three c.args.words.now c.trace_arcs-count.new.arcs arcs c.trace_arcs-count.result.count room count written)) there.arcs_there;
+      arcs = rw (read_after_three c.args.words.now c.trace_arcs-count.new.arcs arcs c.trace_arcs-count.result.count room count written) there.arcs_there;
     }
-
-pub bounds-words-2 : goal.bounds-words-2
-bounds-words-2 g c =
-    let some = some_node _ _ _ (g.N.Network.lawful c.args.net.now) c.requires.bridge in
-    search rules
 
 pub returns : goal.returns
 returns g c =
@@ -58,7 +26,7 @@ returns g c =
     let w = c.trace_arcs-count.result in
     let x = c.smallest-amount.result in
     let (arcs, count, way, written) = c.trace_arcs-count.ensures in
-    let some = some_node _ _ _ l c.requires.bridge in
+    let some = some_node l c.requires.bridge in
     let room : 3 ≤ length before = omega arith in
-    let least = subst (λ xs. Smallest x (residuals v w.first xs w.last)) (read_after_three before c.trace_arcs-count.new.arcs arcs w.count room count written) c.smallest-amount.ensures in
+    let least = rw (read_after_three before c.trace_arcs-count.new.arcs arcs w.count room count written) at c.smallest-amount.ensures in
     traced v (forest_of c.args.table.now) before _ w arcs x count way least (three_words before c.trace_arcs-count.new.arcs arcs w.count x w.first room written)

@@ -1,23 +1,15 @@
-use Rattle.std.proofs.Common.{◌≡◌, sym, ap, ◌∙◌, subst, arith}
+use Rattle.std.proofs.Common.{rules, ◌≡◌, ap, ◌∙◌, arith}
 use Rattle.trees.specs.declared.work.Parent.TheVariants.{Along}
 use Rattle.trees.specs.Forests.{Forest, with_parent, with_stage}
-use Rattle.trees.specs.Trees.{Trees, adoption_left}
-use Rattle.trees.specs.Surveys.{Survey}
+use Rattle.trees.specs.Trees.{adoption_left}
 use Rattle.trees.proofs.Adopting.{orphan_stays, adopted_trees, adopted_survey}
 use Rattle.search.specs.Tables.{forest_of}
 use Rattle.search.proofs.adoption.Adoption.adopt_one.Goals as goal
 
 pub free-requires : goal.free-requires
 free-requires g c =
-    let v = g.N.Network.value c.args.self.now.net.now in
-    let found = c.find_parent.ensures in
-    let o = orphan_stays v (forest_of c.args.table.now) (forest_of c.find_parent.new.table) c.args.self.now.terminal c.args.node found.trees (record { trees = c.requires.trees; mine = c.requires.mine; alone = c.requires.alone }) in
-    record {
-      trees = o.trees;
-      there = c.requires.there;
-      mine = o.mine;
-      alone = o.alone;
-    }
+    let o = orphan_stays (g.N.Network.value c.args.self.now.net.now) (forest_of c.args.table.now) (forest_of c.find_parent.new.table) c.args.self.now.terminal c.args.node c.find_parent.ensures.trees (search rules) in
+    record { trees = o.trees; there = c.requires.there; mine = o.mine; alone = o.alone }
 
 pub returns-in-Some : goal.returns-in-Some
 returns-in-Some g c =
@@ -29,22 +21,17 @@ returns-in-Some g c =
     let stage = c.args.self.now.stage in
     let f = forest_of c.find_parent.new.table in
     let found = c.find_parent.ensures in
-    let o = orphan_stays v (forest_of c.args.table.now) f t u found.trees (record { trees = c.requires.trees; mine = c.requires.mine; alone = c.requires.alone }) in
+    let o = orphan_stays v (forest_of c.args.table.now) f t u found.trees (search rules) in
     let offered = c.in-Some.ensures.found in
     let is : forest_of c.set_stage.new.self ≡ with_stage (with_parent f u (Along a)) u stage = c.set_stage.ensures ∙ ap (λ (x : Forest). with_stage x u stage) c.set_parent.ensures in
     record {
-      trees = subst (Trees v) (sym is) (adopted_trees v f t u a stage (g.N.Network.lawful c.args.self.now.net.now) o offered);
-      survey = subst (λ (x : Forest). Survey v x stage) (sym is) (adopted_survey v f t u a stage o offered found.survey);
+      trees = rw is (adopted_trees stage (g.N.Network.lawful c.args.self.now.net.now) o offered);
+      survey = rw is (adopted_survey o offered found.survey);
       left = omega (arith, ap (adoption_left n) is, ap (adoption_left n) found.trees);
     }
 
-pub returns-in-None : goal.returns-in-None
-returns-in-None g c =
-    let n = (g.N.Network.value c.args.self.now.net.now).graph.nodes in
-    let found = c.find_parent.ensures in
-    let after = c.free.ensures in
-    record {
-      trees = after.trees;
-      survey = after.survey c.args.self.now.stage found.survey;
-      left = omega (arith, after.left, ap (adoption_left n) found.trees);
-    }
+pub returns-in-None-clause-survey : goal.returns-in-None-clause-survey
+returns-in-None-clause-survey g c = c.free.ensures.survey c.args.self.now.stage c.find_parent.ensures.survey
+
+pub returns-in-None-clause-left : goal.returns-in-None-clause-left
+returns-in-None-clause-left g c = omega (arith, c.free.ensures.left, ap (adoption_left (g.N.Network.value c.args.self.now.net.now).graph.nodes) c.find_parent.ensures.trees)

@@ -1,5 +1,3 @@
-use Rattle.std.proofs.Common.{sym, ap, ◌∙◌}
-use Rattle.trees.specs.declared.work.Work.{Work}
 use Rattle.trees.proofs.Climbs.{branch_there}
 use Rattle.trees.proofs.Anchors.{anchored_root}
 use Rattle.trees.proofs.Stepping.{step_up}
@@ -10,18 +8,15 @@ pub returns-in-Root : goal.returns-in-Root
 returns-in-Root g c =
     let v = g.N.Network.value c.args.self.now.net.now in
     let f = forest_of c.args.table.now in
-    c.loop-steps.invariant.2 (anchored_root v.graph f.parent c.args.self.now.terminal c.loop-steps.at (sym (ap (λ (w : Work). w.parent) c.work-record.ensures) ∙ c.in-Root.is))
+    c.loop-steps.invariant.2 (anchored_root v.graph f.parent c.args.self.now.terminal c.loop-steps.at (cc))
 
 pub near_end-at-requires : goal.near_end-at-requires
 near_end-at-requires g c =
     let (there, mine, _) = c.loop-steps.invariant in
-    let t = c.args.self.now.terminal in
-    let u = c.loop-steps.at in
-    let a = c.in-Along.arc in
-    branch_there (g.N.Network.value c.args.self.now.net.now) (forest_of c.args.table.now) t u a (c.requires.survey.parents t u a there mine (sym (ap (λ (w : Work). w.parent) c.work-record.ensures) ∙ c.in-Along.is))
+    branch_there (c.requires.survey.parents c.args.self.now.terminal c.loop-steps.at c.in-Along.arc there mine (cc))
 
 pub loop-steps-preserved : goal.loop-steps-preserved
 loop-steps-preserved g c =
     let (there, mine, on) = c.loop-steps.invariant in
-    let step = step_up (g.N.Network.value c.args.self.now.net.now) (forest_of c.args.table.now) c.args.self.now.stage c.args.self.now.terminal c.loop-steps.at c.in-Along.arc c.near_end-at.result (g.N.Network.lawful c.args.self.now.net.now) c.requires.survey there mine (sym (ap (λ (w : Work). w.parent) c.work-record.ensures) ∙ c.in-Along.is) c.near_end-at.ensures in
+    let step = step_up c.in-Along.arc (g.N.Network.lawful c.args.self.now.net.now) c.requires.survey there mine (cc) c.near_end-at.ensures in
     (step.there, step.mine, λ anchored. on (step.below anchored))

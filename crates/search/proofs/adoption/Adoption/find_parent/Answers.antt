@@ -5,14 +5,10 @@ use Rattle.search.proofs.Neighbours.{met}
 use Rattle.search.proofs.Offers.{beside_inward, found_stands, found_nearer}
 use Rattle.search.proofs.adoption.Adoption.find_parent.Goals as goal
 
-pub ask-requires : goal.ask-requires
-ask-requires g c =
-    let ((k, stands), survey, _, _) = c.loop-next.invariant in
-    let (beside, _) = met g.N.Network.value _ _ _ k _ _ _ stands c.in-Some.ensures.steps in
-    record {
-      survey = survey;
-      inward = beside_inward (g.N.Network.value c.args.self.now.net.now) c.args.self.now.terminal c.args.node k c.in-Some.next (g.N.Network.lawful c.args.self.now.net.now) beside;
-    }
+pub ask-requires-clause-inward : goal.ask-requires-clause-inward
+ask-requires-clause-inward g c =
+    let ((k, stands), _, _, _) = c.loop-next.invariant in
+    beside_inward (g.N.Network.lawful c.args.self.now.net.now) (met g.N.Network.value stands c.in-Some.ensures.steps).0
 
 pub loop-next-preserved-in-Some-ask : goal.loop-next-preserved-in-Some-ask
 loop-next-preserved-in-Some-ask g c =
@@ -22,7 +18,7 @@ loop-next-preserved-in-Some-ask g c =
     let f = forest_of c.loop-next.table in
     let f' = forest_of c.ask.new.table in
     let ((k, stands), _, only, found) = c.loop-next.invariant in
-    let (_, on) = met g.N.Network.value _ _ _ k _ _ _ stands c.in-Some.ensures.steps in
+    let (_, on) = met g.N.Network.value stands c.in-Some.ensures.steps in
     let after = c.ask.ensures in
     let kept = found_stands v f f' t u c.loop-next.best after.trees found in
     ((k + 1, on), after.survey, restaged_on (forest_of c.args.table.now) f f' only after.trees, found_nearer v f' t u c.loop-next.best c.nearer.result (record { arc = c.in-Some.next.inward; distance = c.in-Some-ask.distance }) c.nearer.ensures kept c.in-Some-ask.ensures.answer)
@@ -32,7 +28,7 @@ loop-next-preserved g c =
     let f = forest_of c.loop-next.table in
     let f' = forest_of c.ask.new.table in
     let ((k, stands), _, only, found) = c.loop-next.invariant in
-    let (_, on) = met g.N.Network.value _ _ _ k _ _ _ stands c.in-Some.ensures.steps in
+    let (_, on) = met g.N.Network.value stands c.in-Some.ensures.steps in
     let after = c.ask.ensures in (
       (k + 1, on),
       after.survey,

@@ -1,7 +1,5 @@
-use Rattle.std.proofs.Common.{ℕ, ◌+◌, ◌<◌, sym, subst}
-use Rattle.trees.specs.Forests.{Forest}
-use Rattle.trees.specs.Trees.{Trees, adoption_left}
-use Rattle.trees.specs.Surveys.{SurveyKept}
+use Rattle.std.proofs.Common.{arith, ap, ◌+◌}
+use Rattle.trees.specs.Trees.{adoption_left}
 use Rattle.trees.proofs.Efforts.{adoption_freed}
 use Rattle.search.specs.Tables.{forest_of}
 use Rattle.search.proofs.Neighbours.{met, passed}
@@ -11,35 +9,28 @@ use Rattle.search.proofs.adoption.Adoption.free.Goals as goal
 
 pub release-requires : goal.release-requires
 release-requires g c =
-    let v = g.N.Network.value c.args.self.now.net.now in
     let l = g.N.Network.lawful c.args.self.now.net.now in
     let (k, stands, s) = c.loop-next.invariant in
-    let (beside, _) = met g.N.Network.value _ _ _ k _ _ _ stands c.in-Some.ensures.steps in
-    let inward = beside_inward v c.args.self.now.terminal c.args.node k c.in-Some.next l beside in
+    let (beside, _) = met g.N.Network.value stands c.in-Some.ensures.steps in
+    let inward = beside_inward l beside in
     record {
       there = (inward.0, inward.1);
-      inside = subst (λ (n : ℕ). c.in-Some.next.node < n) (sym s.trees.size) (inward_there v c.args.self.now.terminal c.args.node c.in-Some.next l inward);
+      inside = rw s.trees.size (inward_there (g.N.Network.value c.args.self.now.net.now) c.args.self.now.terminal c.args.node c.in-Some.next l inward);
     }
 
 pub loop-next-preserved : goal.loop-next-preserved
 loop-next-preserved g c =
     let (k, stands, s) = c.loop-next.invariant in
-    let (beside, on) = met g.N.Network.value _ _ _ k _ _ _ stands c.in-Some.ensures.steps in
-    (k + 1, on, freeing_after (g.N.Network.value c.args.self.now.net.now) c.args.self.now.terminal c.args.node k c.in-Some.next (forest_of c.args.table.now) (forest_of c.loop-next.table) (forest_of c.release.new.table) (g.N.Network.lawful c.args.self.now.net.now) s beside c.release.ensures)
+    let (beside, on) = met g.N.Network.value stands c.in-Some.ensures.steps in
+    (k + 1, on, freeing_after (g.N.Network.lawful c.args.self.now.net.now) s beside c.release.ensures)
 
 pub returns : goal.returns
 returns g c =
-    let v = g.N.Network.value c.args.self.now.net.now in
-    let n = v.graph.nodes in
-    let before = forest_of c.args.table.now in
+    let n = (g.N.Network.value c.args.self.now.net.now).graph.nodes in
     let (k, stands, s) = c.loop-next.invariant in
-    let past = passed g.N.Network.value _ _ _ k _ _ stands c.in-None.ensures.steps in
-    let f = forest_of c.loop-next.table in
-    let u = c.args.node in
-    let (trees, survey) = freeing_ends v c.args.self.now.terminal u k before f (g.N.Network.lawful c.args.self.now.net.now) s past in
-    let is = sym c.set_tree.ensures in
+    let (trees, survey) = freeing_ends (g.N.Network.lawful c.args.self.now.net.now) s (passed g.N.Network.value stands c.in-None.ensures.steps) in
     record {
-      trees = subst (Trees v) is trees;
-      survey = subst (SurveyKept v before) is survey;
-      left = subst (λ (x : Forest). adoption_left n x < adoption_left n before) is (adoption_freed n u before f c.args.self.now.terminal c.requires.there s.same c.requires.mine);
+      trees = rw c.set_tree.ensures trees;
+      survey = rw c.set_tree.ensures survey;
+      left = omega (arith, adoption_freed n c.args.node (forest_of c.args.table.now) (forest_of c.loop-next.table) c.args.self.now.terminal c.requires.there s.same c.requires.mine, ap (adoption_left n) c.set_tree.ensures);
     }

@@ -9,6 +9,3 @@ invariant_of-result c =
     let ((head, count), (first, length)) = c.default.ensures in
     let rings : c.default.result ≡ no_queues = λ i. record { waiting = record { head = head i; count = count i }; orphans = record { head = first i; count = length i } } in
     record { kept = sound_is (forest_filled _ _ _ (c.fill.ensures.after (λ _ same. same)) c.blank.ensures) refl rings (sound_cleared _ (slots c.fill.new.self)) }
-
-pub returns : goal.returns
-returns c = forest_filled _ _ _ (c.fill.ensures.after (λ _ same. same)) c.blank.ensures

@@ -1,37 +1,19 @@
-use Rattle.std.proofs.Common.{◌≡◌, ◌+◌, ◌-◌, ◌<◌, true, false, length, sym, refl, ap, ◌∙◌, subst, arith}
+use Rattle.std.proofs.Common.{false, refl, ap, ◌∙◌, arith}
 use Rattle.trees.specs.declared.ring.Ring.{Ring}
-use Rattle.trees.specs.Forests.{forest, slots, lane_of, put_lane, with_queued}
-use Rattle.trees.specs.Rings.{wrap}
-use Rattle.trees.proofs.Queueing.{shorter, none_queued, sound_picked, sound_is}
+use Rattle.trees.specs.Forests.{forest, slots, with_queued}
+use Rattle.trees.proofs.Queueing.{none_queued, sound_picked, sound_is}
 use Rattle.search.proofs.table.Table.pick.Goals as goal
 
 pub returns-then-count-eq0 : goal.returns-then-count-eq0
 returns-then-count-eq0 c =
     let ws = c.args.self.now.work.now in
-    (refl, none_queued (forest ws) (slots ws) c.args.self.now.queues c.args.lane c.args.self.now.kept (sym (ap (λ (r : Ring). r.count) c.get-head.ensures) ∙ c.if-count-eq0.true))
+    (refl, none_queued (forest ws) (slots ws) c.args.self.now.queues c.args.lane c.args.self.now.kept (cc))
 
 pub invariant_of-self : goal.invariant_of-self
 invariant_of-self c =
     let ws = c.args.self.now.work.now in
-    let n = length ws in
     let q = c.args.self.now.queues in
     let l = c.args.lane in
-    let r = lane_of l q in
-    let place : c.place_after.result ≡ wrap n (r.head + 0) = c.place_after.ensures ∙ ap (λ (r : Ring). wrap n (r.head + 0)) c.get-head.ensures in
-    let is : c.get-node.result ≡ slots ws l (wrap n (r.head + 0)) = c.get-node.ensures ∙ ap (slots ws l) place in
-    let rings = c.set.ensures ∙ ap (λ x. put_lane l (record { head = x; count = c.get-head.result.count - 1 }) q) c.place_after-2.ensures ∙ ap (λ (r : Ring). put_lane l (shorter n r) q) c.get-head.ensures in
-    let count = ap (λ (r : Ring). r.count) c.get-head.ensures in
-    record { kept = sound_is (c.dequeue.ensures.trees ∙ ap (λ x. with_queued (forest ws) l x false) is) c.dequeue.ensures.places rings (sound_picked (forest ws) (slots ws) q l c.args.self.now.kept (omega arith)) }
-
-pub returns : goal.returns
-returns c =
-    let ws = c.args.self.now.work.now in
-    let n = length ws in
-    let l = c.args.lane in
-    let r = lane_of l c.args.self.now.queues in
-    let held = c.args.self.now.kept l in
-    let count = ap (λ (r : Ring). r.count) c.get-head.ensures in
-    let some : 0 < r.count = omega arith in
-    let place : c.place_after.result ≡ wrap n (r.head + 0) = c.place_after.ensures ∙ ap (λ (r : Ring). wrap n (r.head + 0)) c.get-head.ensures in
-    let is : c.get-node.result ≡ slots ws l (wrap n (r.head + 0)) = c.get-node.ensures ∙ ap (slots ws l) place in
-    (subst (λ x. x < n) (sym is) (held.there 0 some), subst (λ x. (forest ws).queued l x ≡ true) (sym is) (held.marked 0 some), c.dequeue.ensures.trees)
+    let is = rw (c.place_after.ensures, c.get-head.ensures) at c.get-node.ensures in
+    let rings = rw (c.place_after-2.ensures, c.get-head.ensures) at c.set.ensures in
+    record { kept = sound_is (c.dequeue.ensures.trees ∙ ap (λ x. with_queued (forest ws) l x false) is) c.dequeue.ensures.places rings (sound_picked (forest ws) (slots ws) q l c.args.self.now.kept (omega (arith, ap (λ (r : Ring). r.count) c.get-head.ensures))) }
