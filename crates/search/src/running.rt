@@ -17,7 +17,7 @@ use super::refusal::RunRefusal;
 use super::report::{Log, Outcome, Report};
 use super::starting::{is_short, start};
 use super::table::Table;
-use super::tracing::trace;
+use super::tracing::Tracer;
 use network::Network;
 use trees::Work;
 
@@ -37,7 +37,7 @@ fn augment<N: Network>(
     ensures trees { Trees (N.Network.value net.new) (forest_of table.new) }
     ensures stages { (forest_of table.new).stage ≡ (forest_of table.old).stage }
 {
-    let path = trace(net, table, bridge, &mut trail[log.words..]);
+    let path = Tracer { net, table }.trace(bridge, &mut trail[log.words..]);
     let from = log.words + 3;
     carry(net, table, path, &trail[from..from + path.arcs]);
     *log = log.with(path.arcs, path.amount);

@@ -38,79 +38,103 @@ pub(crate) struct Traced {
     pub(crate) last: usize,
 }
 
-// The step up from a node of the terminal's tree; none from a child of the terminal.
-fn step_up<N: Network>(net: &N, table: &Table, terminal: Terminal, node: usize) -> Option<Hop>
-    requires trees { Settled (N.Network.value net.now) (forest_of table.now) }
-    requires there { node < (N.Network.value net.now).graph.nodes }
-    requires tree { (forest_of table.now).tree node ≡ Some terminal }
-    ensures { Hops (N.Network.value net.now).graph (forest_of table.now).parent terminal node result }
-{
-    match table.work(node).parent {
-        Parent::Along(arc) => Some(Hop {
-            arc,
-            node: near_end(net, terminal, arc),
-        }),
-        Parent::Root | Parent::Orphan => None,
+// The network and the table as a path is traced, which changes neither. That every node of a tree hangs from its terminal is no ghost
+// field, which was tried: such a fact has one proof at most, and this one tells a climb for each node.
+#[derive(Drop)]
+pub(crate) struct Tracer<'a, 't, N> {
+    pub(crate) net: &'a N,
+    pub(crate) table: &'a Table<'t>,
+}
+
+impl<N: Network> Tracer<'_, '_, N> {
+    // The step up from a node of the terminal's tree; none from a child of the terminal.
+    fn step_up(&self, terminal: Terminal, node: usize) -> Option<Hop>
+        requires trees { Settled (N.Network.value self.now.net.now) (forest_of self.now.table.now) }
+        requires there { node < (N.Network.value self.now.net.now).graph.nodes }
+        requires tree { (forest_of self.now.table.now).tree node ≡ Some terminal }
+        ensures { Hops (N.Network.value self.now.net.now).graph (forest_of self.now.table.now).parent terminal node result }
+    {
+        match self.table.work(node).parent {
+            Parent::Along(arc) => Some(Hop {
+                arc,
+                node: near_end(self.net, terminal, arc),
+            }),
+            Parent::Root | Parent::Orphan => None,
+        }
     }
-}
 
-// Writes the arcs of the climb from a node of the terminal's tree up to the terminal, the lowest first; tells how many they
-// are, and the terminal's child where the climb ends.
-fn climb<N: Network>(
-    net: &N,
-    table: &Table,
-    terminal: Terminal,
-    node: usize,
-    arcs: &mut [u64],
-) -> (usize, usize)
-    requires trees { Settled (N.Network.value net.now) (forest_of table.now) }
-    requires there { node < (N.Network.value net.now).graph.nodes }
-    requires tree { (forest_of table.now).tree node ≡ Some terminal }
-    requires room { ClimbsFit (N.Network.value net.now).graph (forest_of table.now).parent terminal node (length arcs.old) }
-    ensures { ClimbWritten (N.Network.value net.now).graph (forest_of table.now).parent terminal node arcs.old arcs.new result }
-{
-    let mut at = node;
-    // counted by hand: the count is the answer, and only the trees tell which step is the last
-    let mut steps = 0;
-    while let Some(hop) = step_up(net, table, terminal, at) {
-        arcs[steps] = hop.arc as u64;
-        steps += 1;
-        at = hop.node;
+    // Writes the arcs of the climb from a node of the terminal's tree up to the terminal, the lowest first; tells how many they
+    // are, and the terminal's child where the climb ends.
+    fn climb(&self, terminal: Terminal, node: usize, arcs: &mut [u64]) -> (usize, usize)
+        requires trees { Settled (N.Network.value self.now.net.now) (forest_of self.now.table.now) }
+        requires there { node < (N.Network.value self.now.net.now).graph.nodes }
+        requires tree { (forest_of self.now.table.now).tree node ≡ Some terminal }
+        requires room { ClimbsFit (N.Network.value self.now.net.now).graph (forest_of self.now.table.now).parent terminal node (length arcs.old) }
+        ensures { ClimbWritten (N.Network.value self.now.net.now).graph (forest_of self.now.table.now).parent terminal node arcs.old arcs.new result }
+    {
+        let mut at = node;
+        // counted by hand: the count is the answer, and only the trees tell which step is the last
+        let mut steps = 0;
+        while let Some(hop) = self.step_up(terminal, at) {
+            arcs[steps] = hop.arc as u64;
+            steps += 1;
+            at = hop.node;
+        }
+        (steps, at)
     }
-    (steps, at)
-}
 
-// Writes the arcs from the source down to a node of its tree, where there is room for one more; tells how many they are, and the
-// source's child where they begin.
-fn descend<N: Network>(net: &N, table: &Table, node: usize, arcs: &mut [u64]) -> (usize, usize)
-    requires trees { Settled (N.Network.value net.now) (forest_of table.now) }
-    requires there { node < (N.Network.value net.now).graph.nodes }
-    requires tree { (forest_of table.now).tree node ≡ Some Source }
-    requires room { ClimbsLeaveOne (N.Network.value net.now).graph (forest_of table.now).parent Source node (length arcs.old) }
-    ensures written { DescentWritten (N.Network.value net.now).graph (forest_of table.now).parent Source node arcs.old arcs.new result }
-    ensures left { result.0 < length arcs.new }
-{
-    let (steps, root) = climb(net, table, Terminal::Source, node, arcs);
-    arcs[..steps].reverse();
-    (steps, root)
-}
+    // Writes the arcs from the source down to a node of its tree, where there is room for one more; tells how many they are, and the
+    // source's child where they begin.
+    fn descend(&self, node: usize, arcs: &mut [u64]) -> (usize, usize)
+        requires trees { Settled (N.Network.value self.now.net.now) (forest_of self.now.table.now) }
+        requires there { node < (N.Network.value self.now.net.now).graph.nodes }
+        requires tree { (forest_of self.now.table.now).tree node ≡ Some Source }
+        requires room { ClimbsLeaveOne (N.Network.value self.now.net.now).graph (forest_of self.now.table.now).parent Source node (length arcs.old) }
+        ensures written { DescentWritten (N.Network.value self.now.net.now).graph (forest_of self.now.table.now).parent Source node arcs.old arcs.new result }
+        ensures left { result.0 < length arcs.new }
+    {
+        let (steps, root) = self.climb(Terminal::Source, node, arcs);
+        arcs[..steps].reverse();
+        (steps, root)
+    }
 
-// Writes the arcs of the path over a bridge: up the source's tree, turned round, over the bridge, and up the sink's tree.
-fn trace_arcs<N: Network>(net: &N, table: &Table, bridge: usize, arcs: &mut [u64]) -> Way
-    requires trees { Settled (N.Network.value net.now) (forest_of table.now) }
-    requires bridge { Bridges (N.Network.value net.now) (forest_of table.now) bridge }
-    requires room { (N.Network.value net.now).graph.nodes ≤ length arcs.old + 1 }
-    ensures { WayWritten (N.Network.value net.now) (forest_of table.now) arcs.old arcs.new result }
-{
-    let tail = near_end(net, Terminal::Source, bridge);
-    let (below, first) = descend(net, table, tail, arcs);
-    arcs[below] = bridge as u64;
-    let head = near_end(net, Terminal::Sink, bridge);
-    let (above, last) = climb(net, table, Terminal::Sink, head, &mut arcs[below + 1..]);
-    Way {
-        count: below + 1 + above,
-        first,
-        last,
+    // Writes the arcs of the path over a bridge: up the source's tree, turned round, over the bridge, and up the sink's tree.
+    fn trace_arcs(&self, bridge: usize, arcs: &mut [u64]) -> Way
+        requires trees { Settled (N.Network.value self.now.net.now) (forest_of self.now.table.now) }
+        requires bridge { Bridges (N.Network.value self.now.net.now) (forest_of self.now.table.now) bridge }
+        requires room { (N.Network.value self.now.net.now).graph.nodes ≤ length arcs.old + 1 }
+        ensures { WayWritten (N.Network.value self.now.net.now) (forest_of self.now.table.now) arcs.old arcs.new result }
+    {
+        let tail = near_end(self.net, Terminal::Source, bridge);
+        let (below, first) = self.descend(tail, arcs);
+        arcs[below] = bridge as u64;
+        let head = near_end(self.net, Terminal::Sink, bridge);
+        let (above, last) = self.climb(Terminal::Sink, head, &mut arcs[below + 1..]);
+        Way {
+            count: below + 1 + above,
+            first,
+            last,
+        }
+    }
+
+    // Writes the words of the path over a bridge.
+    pub(crate) fn trace(&self, bridge: usize, words: &mut [u64]) -> Traced
+        requires trees { Settled (N.Network.value self.now.net.now) (forest_of self.now.table.now) }
+        requires bridge { Bridges (N.Network.value self.now.net.now) (forest_of self.now.table.now) bridge }
+        requires room { (N.Network.value self.now.net.now).graph.nodes + 2 ≤ length words.old }
+        ensures { PathWritten (N.Network.value self.now.net.now) (forest_of self.now.table.now) words.old words.new result }
+    {
+        let Way { count, first, last } = self.trace_arcs(bridge, &mut words[3..]);
+        let amount = smallest(self.net, first, last, &words[3..3 + count]);
+        words[0] = count as u64;
+        words[1] = amount;
+        words[2] = first as u64;
+        Traced {
+            arcs: count,
+            amount,
+            first,
+            last,
+        }
     }
 }
 
@@ -128,24 +152,4 @@ fn smallest<N: Network>(net: &N, first: usize, last: usize, arcs: &[u64]) -> u64
         least = least.min(residual(net, *arc as usize));
     }
     least
-}
-
-// Writes the words of the path over a bridge.
-pub(crate) fn trace<N: Network>(net: &N, table: &Table, bridge: usize, words: &mut [u64]) -> Traced
-    requires trees { Settled (N.Network.value net.now) (forest_of table.now) }
-    requires bridge { Bridges (N.Network.value net.now) (forest_of table.now) bridge }
-    requires room { (N.Network.value net.now).graph.nodes + 2 ≤ length words.old }
-    ensures { PathWritten (N.Network.value net.now) (forest_of table.now) words.old words.new result }
-{
-    let Way { count, first, last } = trace_arcs(net, table, bridge, &mut words[3..]);
-    let amount = smallest(net, first, last, &words[3..3 + count]);
-    words[0] = count as u64;
-    words[1] = amount;
-    words[2] = first as u64;
-    Traced {
-        arcs: count,
-        amount,
-        first,
-        last,
-    }
 }
