@@ -1,7 +1,7 @@
 // The paths of single nodes, which a run carries out first, and the log of paths.
 ghost use Rattle.std.specs.Prelude.{◌≡◌, ◌+◌, ◌^◌, ◌<◌, ◌≤◌, min, length, cond};
 ghost use Rattle.network.specs.declared.terminal.Terminal.TheVariants.{Source, Sink};
-ghost use Rattle.search.specs.Trails.{no_log, Bounded, Further, node_path, SomeLogged, Started};
+ghost use Rattle.search.specs.Trails.{headed, no_log, Bounded, Further, node_path, SomeLogged, Started};
 
 use super::reading::{take_from, terminal_residual};
 use super::report::{Log, Outcome};
@@ -21,6 +21,16 @@ impl Log {
             words: self.words + (3 + arcs),
         }
     }
+}
+
+// Writes the words of a path that stand before its arcs: how many arcs there are, the amount and the first node.
+pub(crate) fn write_head(words: &mut [u64], arcs: usize, amount: u64, first: usize)
+    requires { 3 ≤ length words.old }
+    ensures { words.new ≡ headed words.old arcs amount first }
+{
+    words[0] = arcs as u64;
+    words[1] = amount;
+    words[2] = first as u64;
 }
 
 // Whether a trail may be too short for one path more, where the network has so many nodes.
@@ -53,10 +63,7 @@ fn pass_through<N: Network>(net: &mut N, trail: &mut [u64], log: &mut Log, node:
 {
     take_from(net, Terminal::Source, node, amount);
     take_from(net, Terminal::Sink, node, amount);
-    let words = &mut trail[log.words..];
-    words[0] = 0;
-    words[1] = amount;
-    words[2] = node as u64;
+    write_head(&mut trail[log.words..], 0, amount, node);
     *log = log.with(0, amount);
 }
 

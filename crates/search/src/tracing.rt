@@ -10,6 +10,7 @@ ghost use Rattle.search.specs.Tracings.{Hops, WayWritten, PathWritten};
 ghost use Rattle.search.specs.Tables.{forest_of};
 
 use super::reading::{near_end, residual, terminal_residual};
+use super::starting::write_head;
 use super::table::Table;
 use network::{Network, Terminal};
 use trees::Parent;
@@ -126,9 +127,7 @@ impl<N: Network> Tracer<'_, '_, N> {
     {
         let Way { count, first, last } = self.trace_arcs(bridge, &mut words[3..]);
         let amount = smallest(self.net, first, last, &words[3..3 + count]);
-        words[0] = count as u64;
-        words[1] = amount;
-        words[2] = first as u64;
+        write_head(words, count, amount, first);
         Traced {
             arcs: count,
             amount,

@@ -19,5 +19,5 @@ returns g c =
       value = c.take_from-2.ensures ∙ ap (λ (w : Net). taken w Sink u x) c.take_from.ensures;
       log = c.with.ensures;
       fits = omega (arith, ap (λ (l : Log). l.words) c.with.ensures);
-      trail = put_behind trail _ (0 ∷ x ∷ u ∷ []) n (omega (arith, c.requires.room)) (set_three (take (length trail - n) (drop n trail)) 0 x u long) ∙ ap (λ k. take n trail ++ ((0 ∷ x ∷ u ∷ []) ++ drop k trail)) (sym (ap (λ (l : Log). l.words) c.with.ensures));
+      trail = put_behind trail _ (0 ∷ x ∷ u ∷ []) n (omega (arith, c.requires.room)) (rw c.write_head.ensures (set_three (take (length trail - n) (drop n trail)) 0 x u long)) ∙ ap (λ k. take n trail ++ ((0 ∷ x ∷ u ∷ []) ++ drop k trail)) (sym (ap (λ (l : Log). l.words) c.with.ensures));
     }
