@@ -46,10 +46,11 @@ impl EnterRefusal {
         }
     }
 
-    // The number of the question whose answer is no. No discriminants: a must-fail edit gives two cases one number, and has to build.
+    // The number of the question whose answer is no.
     pub fn question(self) -> u8
         ensures { result ≡ enter_question self }
     {
+        // each case has a number of its own, shared with no other enum; no discriminants, since an edit that gives two cases one must build
         match self {
             EnterRefusal::LargeEarning => 1,
             EnterRefusal::LargeCost => 2,
@@ -75,10 +76,11 @@ pub enum NeedRefusal {
 }
 
 impl NeedRefusal {
-    // The number of the question whose answer is no. No discriminants: a must-fail edit gives two cases one number, and has to build.
+    // The number of the question whose answer is no.
     pub fn question(self) -> u8
         ensures { result ≡ need_question self }
     {
+        // each case has a number of its own, shared with no other enum; no discriminants, since an edit that gives two cases one must build
         match self {
             NeedRefusal::NoEntry => 5,
             NeedRefusal::Itself => 6,

@@ -17,6 +17,7 @@ impl From<Mark> for u8 {
     ghost from_gives = { λ mark byte. byte ≡ mark_byte mark };
 
     fn from(mark: Mark) -> u8 {
+        // each case has a number of its own, shared with no other enum; no discriminants, since an edit that gives two cases one must build
         match mark {
             Mark::In => 1,
             Mark::Out => 2,

@@ -30,7 +30,9 @@ fn nearer(best: Option<Offer>, other: Offer) -> Offer
         .unwrap_or(other)
 }
 
-// The adoption of an orphan of the terminal's tree, in a stage that tells which nodes were seen to hang from their terminal since.
+// The adoption of an orphan of the terminal's tree, in a stage that tells which nodes were seen to hang from their terminal since. What
+// it may rely on (`Survey`) is about the table as it is, which its functions change: with the table's loan in it, each would have to
+// say that it still holds the same.
 #[derive(Drop)]
 struct Adoption<'a, N> {
     net: &'a N,

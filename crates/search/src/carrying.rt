@@ -1,5 +1,5 @@
 // Carrying a path out: its amount is taken at both ends and sent along its arcs, and the nodes that hang from what it empties
-// become orphans.
+// become orphans. That this leaves who is in which tree (`Carries`) ties the table before to the one after, so no type can hold it.
 ghost use Rattle.std.specs.Prelude.{◌≡◌, ◌<◌, ◌≤◌};
 ghost use Rattle.network.specs.Nets.{taken, shifted};
 ghost use Rattle.network.specs.Paths.{last_node, Augmenting, shifted_along, carried};

@@ -25,7 +25,8 @@ pub(crate) struct Neighbourhood<'a, N> {
     place: usize,
 }
 
-// The neighbours of a node from its first place on.
+// The neighbours of a node from its first place on. A terminal and a node stay two values, here and elsewhere: many calls ask one node
+// of both terminals.
 pub(crate) fn neighbours<N: Network>(
     net: &N,
     terminal: Terminal,
@@ -66,7 +67,7 @@ impl<'a, N: Network> Iterator for Neighbourhood<'a, N> {
     }
 }
 
-// What can still be sent along an arc.
+// What can still be sent along an arc. That it is there is a fact about the network's value, which no type of a number could hold.
 pub(crate) fn residual<N: Network>(net: &N, arc: usize) -> u64
     requires { There (N.Network.value net.now).graph arc }
     ensures { result ≡ (N.Network.value net.now).residual arc }

@@ -30,7 +30,7 @@ impl RunRefusal {
     pub fn question(self) -> u8
         ensures { result ≡ question self }
     {
-        // not by discriminants: an edit that gives a case the number of another must build, to be refused by the proof
+        // each case has a number of its own, shared with no other enum; no discriminants, since an edit that gives two cases one must build
         match self {
             RunRefusal::FewRecords => 25,
             RunRefusal::FewMarks => 26,

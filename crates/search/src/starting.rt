@@ -28,6 +28,7 @@ pub(crate) fn write_head(words: &mut [u64], arcs: usize, amount: u64, first: usi
     requires { 3 ≤ length words.old }
     ensures { words.new ≡ headed words.old arcs amount first }
 {
+    // by `as`: there is no `From` between these two types
     words[0] = arcs as u64;
     words[1] = amount;
     words[2] = first as u64;
@@ -52,7 +53,8 @@ fn amount_through<N: Network>(net: &N, node: usize) -> u64
     source.min(sink)
 }
 
-// Carries out the path of a single node, and writes it behind the words of the log.
+// Carries out the path of a single node, and writes it behind the words of the log. What bounds the log (`Bounded`) is the network's
+// value, so it is no fact of a log alone.
 fn pass_through<N: Network>(net: &mut N, trail: &mut [u64], log: &mut Log, node: usize, amount: u64)
     requires there { node < (N.Network.value net.old).graph.nodes }
     requires some { 0 < amount }

@@ -59,7 +59,7 @@ impl<'a> Table<'a> {
         self.work(node).tree == Some(terminal)
     }
 
-    // Puts a node into a tree, or out of both.
+    // Puts a node into a tree, or out of both. That a node has a record is asked by each function that goes to it, as by an index.
     pub(crate) fn set_tree(&mut self, node: usize, tree: Option<Terminal>)
         requires { node < (forest_of self.old).size }
         ensures { forest_of self.new ≡ with_tree (forest_of self.old) node tree }
@@ -75,7 +75,8 @@ impl<'a> Table<'a> {
         self.work[node].parent = parent;
     }
 
-    // Remembers that a node hangs from its terminal in this stage of adoption, and how far from it.
+    // Remembers that a node hangs from its terminal in this stage of adoption, and how far from it. It is one write: after each of two
+    // the queues would have to be vouched for.
     pub(crate) fn set_stage(&mut self, node: usize, stage: u64, distance: usize)
         requires { node < (forest_of self.old).size }
         ensures { forest_of self.new ≡ with_stage (forest_of self.old) node stage }

@@ -30,7 +30,8 @@ struct Way {
     last: usize,
 }
 
-// A path that was traced: how many arcs it has, the amount that it sends, its first and its last node.
+// A path that was traced: how many arcs it has, the amount that it sends, its first and its last node. A `Way` comes before it, while
+// the amount is not known, and is told flat here.
 #[derive(Clone, Copy, PartialEq, Eq, Debug)]
 pub(crate) struct Traced {
     pub(crate) arcs: usize,

@@ -23,11 +23,11 @@ pub enum Fault {
 }
 
 impl Fault {
-    // The number of the question that the record failed. A match: with discriminants, an edit that gives two cases one number
-    // would not build, and so would not show that the contract refuses it.
+    // The number of the question that the record failed.
     pub fn question(self) -> u8
         ensures { result ≡ question self }
     {
+        // each case has a number of its own, shared with no other enum; no discriminants, since an edit that gives two cases one must build
         match self {
             Fault::TooMany => 12,
             Fault::HighBits => 13,

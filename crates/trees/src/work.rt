@@ -17,7 +17,7 @@ pub enum Parent {
     Along(usize),
 }
 
-// Nodes go by their numbers, and no record holds another: the user lends the table, and nothing is allocated.
+// Nodes go by their numbers and arcs by their codes, and no record holds another: the user lends the table, and nothing is allocated.
 #[derive(Clone, Copy, PartialEq, Eq, Debug, Default)]
 pub struct Work {
     // the node's tree, where it is in one, and where it hangs
@@ -33,7 +33,7 @@ pub struct Work {
 }
 
 impl Work {
-    // The record of a node in no tree and no queue.
+    // The record of a node in no tree and no queue: the default, told by its contract.
     pub fn blank() -> Work
         ensures { result ≡ blank }
     {

@@ -1,6 +1,6 @@
-use Rattle.std.proofs.Common.{sym}
+use Rattle.std.proofs.Common.{arith}
 use Rattle.book.proofs.Enterings.{entry_count}
 use Rattle.book.proofs.open.OpenBook.entry_count.Goals as goal
 
 pub returns : goal.returns
-returns c = let held = c.args.self.now.held in sym (entry_count held.table.now held.entries held.needs)
+returns c = let held = c.args.self.now.held in omega (arith, entry_count held.table.now held.entries held.needs)
