@@ -2,6 +2,7 @@
 use Rattle.std.specs.Prelude.{◌≡◌, ℕ, zero, suc, ◌+◌, ◌-◌, ◌*◌, ◌%◌, ◌^◌, ◌<◌, ◌≤◌, Bool, true, false, cond, ◌⊎◌, List, [], ◌∷◌, ◌++◌, Some, None, ◌≢◌, nat_lt, refl}
 use Rattle.std.proofs.Common.{ap, ◌∙◌, subst₂, inl, inr, ⊎_elim, arith}
 use Rattle.std.proofs.lemmas.Bool.{ltb-true, lt-ltb, eq-eqb, ne_eqb, cases_eq}
+use Rattle.std.proofs.lemmas.Option.{cond_some}
 use Rattle.std.specs.List.{slice_get}
 use Rattle.network.specs.declared.terminal.Terminal.TheVariants.{Source, Sink}
 use Rattle.network.specs.Nets.{Ends, LawfulGraph, Lawful, reversed}
@@ -29,14 +30,10 @@ right_there n i h = rw (owner_right i, way_right i, lt-ltb (i + 1) n h)
 left_there : (n i : ℕ) → i + 1 < n → ends_among n (2 * i + 1) ≡ Some (joins Left i)
 left_there n i h = rw (owner_left i, way_left i, lt-ltb (i + 1) n h)
 
-some_from_test : (b : Bool) (x e : Ends) → cond b (Some x) None ≡ Some e → (b ≡ true) × (x ≡ e)
-some_from_test true x e h = (refl, cc)
-some_from_test false x e h = cc
-
 -- what holds of both arcs of each cell but the last holds of each arc
 each_arc : (n : ℕ) (P : ℕ → Ends → Type 0) → ((i : ℕ) → i + 1 < n → P (2 * i) (joins Right i)) → ((i : ℕ) → i + 1 < n → P (2 * i + 1) (joins Left i)) → (a : ℕ) (e : Ends) → ends_among n a ≡ Some e → P a e
 each_arc n P right left a e h =
-    let t = some_from_test (nat_lt (owner a + 1) n) (joins (way_of a) (owner a)) e h in
+    let t = cond_some (nat_lt (owner a + 1) n) (joins (way_of a) (owner a)) e h in
     let inside : owner a + 1 < n = ltb-true (owner a + 1) n t.0 in
     ⊎_elim
     (λ (even : a % 2 ≡ 0). let w : way_of a ≡ Right = rw (eq-eqb (a % 2) 0 even) in subst₂ P (omega arith) (cc) (right (owner a) inside))
