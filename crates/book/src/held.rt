@@ -4,6 +4,7 @@ ghost use Rattle.book.specs.Tables.{columns, SmallAmounts, HeadsThere};
 
 use super::record::Record;
 
+// No derived equality, here and for both books: a `&mut` to a slice has none.
 #[derive(Debug, Drop)]
 pub(crate) struct Held<'a> {
     pub(crate) table: &'a mut [Record],

@@ -46,7 +46,7 @@ impl EnterRefusal {
         }
     }
 
-    // The number of the question whose answer is no.
+    // The number of the question whose answer is no; a rule of the project has a method answer it.
     pub fn question(self) -> u8
         ensures { result ≡ enter_question self }
     {
@@ -76,7 +76,7 @@ pub enum NeedRefusal {
 }
 
 impl NeedRefusal {
-    // The number of the question whose answer is no.
+    // The number of the question whose answer is no; a rule of the project has a method answer it.
     pub fn question(self) -> u8
         ensures { result ≡ need_question self }
     {

@@ -14,7 +14,7 @@ pub enum NetworkRefusal {
 }
 
 impl NetworkRefusal {
-    // The number of the question whose answer is no.
+    // The number of the question whose answer is no; a rule of the project has a method answer it.
     pub fn question(self) -> u8
         ensures { result ≡ question self }
     {

@@ -9,6 +9,7 @@ mod cell;
 pub use cell::Cell;
 
 // Each cell of the slice is a node, numbered by its place; those from 4,096 on are left out.
+// No derived equality: a `&mut` to a slice has none.
 #[derive(Debug, Drop)]
 pub struct Row<'a> {
     cells: &'a mut [Cell],

@@ -26,7 +26,7 @@ impl RunRefusal {
         Ok(())
     }
 
-    // The number of the question whose answer is no.
+    // The number of the question whose answer is no; a rule of the project has a method answer it.
     pub fn question(self) -> u8
         ensures { result ≡ question self }
     {

@@ -28,7 +28,6 @@ pub(crate) fn write_head(words: &mut [u64], arcs: usize, amount: u64, first: usi
     requires { 3 ≤ length words.old }
     ensures { words.new ≡ headed words.old arcs amount first }
 {
-    // by `as`: there is no `From` between these two types
     words[0] = arcs as u64;
     words[1] = amount;
     words[2] = first as u64;

@@ -40,8 +40,8 @@ pub(crate) struct Traced {
     pub(crate) last: usize,
 }
 
-// The network and the table as a path is traced, which changes neither. That every node of a tree hangs from its terminal is no ghost
-// field, which was tried: such a fact has one proof at most, and this one tells a climb for each node.
+// The network and the table as a path is traced, which changes neither. That every node of a tree hangs from its terminal, and
+// that an arc is a bridge, are no ghost fields, which was tried: such a fact has one proof at most, and these tell climbs and ends.
 #[derive(Drop)]
 pub(crate) struct Tracer<'a, 't, N> {
     pub(crate) net: &'a N,

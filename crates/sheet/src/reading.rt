@@ -64,8 +64,8 @@ impl<'a> Reader<'a> {
         self.amount(found.kind.earning())
     }
 
-    // What the entry costs that stands at the places of a record; 0 where it has no cost. What it shares with the earning is
-    // `amount`.
+    // What the entry costs that stands at the places of a record; 0 where it has no cost. It and `earning` are both public, and what
+    // they share is `amount`.
     pub fn cost(&self, found: &Record) -> u32
         ensures { result ≡ amount (entry_at (sheet_of self.now) found.now).cost }
     {

@@ -8,7 +8,7 @@ ghost use Rattle.sheet.specs.Sound.{InRange, Ordered};
 use super::bytes::{amount_at, need_at};
 use super::refusal::Fault;
 
-// How many entries a sheet may have, and the largest amount of an entry.
+// How many entries a sheet may have, and the largest amount of an entry. The book has the same two, and does not stand on this crate.
 const MOST_ENTRIES: usize = 4_096;
 
 const MOST_AMOUNT: u32 = 1_000_000;

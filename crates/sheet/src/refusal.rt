@@ -23,7 +23,7 @@ pub enum Fault {
 }
 
 impl Fault {
-    // The number of the question that the record failed.
+    // The number of the question that the record failed; a rule of the project has a method answer it.
     pub fn question(self) -> u8
         ensures { result ≡ question self }
     {

@@ -33,7 +33,7 @@ pub struct Work {
 }
 
 impl Work {
-    // The record of a node in no tree and no queue: the default, told by its contract.
+    // The record of a node in no tree and no queue: the default, but public and told by its contract.
     pub fn blank() -> Work
         ensures { result ≡ blank }
     {
