@@ -21,8 +21,8 @@ pub(crate) struct Offer {
     pub(crate) distance: usize,
 }
 
-// The nearer of two parents; the first if both are as near. No `min_by_key` over the neighbours: asking one writes to the table, and of
-// a closure that writes a proof would know nothing afterwards.
+// The nearer of two parents; the first if both are as near. No `min_by_key` over the neighbours, which was tried: asking one writes to
+// the table, and a proof does not know afterwards what a closure wrote.
 fn nearer(best: Option<Offer>, other: Offer) -> Offer
     ensures { (Some result ≡ best) ⊎ (result ≡ other) }
 {
