@@ -43,8 +43,8 @@ met value at (b, on) = (
   record { net = on.net ∙ at.net; terminal = on.terminal ∙ at.terminal; node = on.node ∙ at.node; place = cc },
 )
 
-pub passed : {N : Type 0} (value : N → Net) {w : N} {t : Terminal} {u k : ℕ} {s s' : Neighbourhood N} → Stands w t u k s → StepsOn value s None s' → slice_get ((value w).graph.arcs u) k ≡ None
-passed value at (past, _) = rw (← at.net, ← at.node, ← at.place) past
+pub past_last : {N : Type 0} (value : N → Net) {w : N} {t : Terminal} {u k : ℕ} {s s' : Neighbourhood N} → Stands w t u k s → StepsOn value s None s' → slice_get ((value w).graph.arcs u) k ≡ None
+past_last value at (past, _) = rw (← at.net, ← at.node, ← at.place) past
 
 -- a neighbour that was told: fewer places are left
 pub goes_on : {N : Type 0} (value : N → Net) (s : Neighbourhood N) (h : Neighbour) (a : ℕ) → HasNode value s → slice_get ((value s.net.now).graph.arcs s.node) s.place ≡ Some a → MakesProgress (HasNode value) (places_left value) s (Some h) (record { net = s.net; terminal = s.terminal; node = s.node; place = s.place + 1 })

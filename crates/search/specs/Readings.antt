@@ -45,10 +45,10 @@ abbrev pub places_left : {N : Type 0} → (N → Net) → Neighbourhood N → Co
 places_left value s = at_most (length ((value s.net.now).graph.arcs s.node) - s.place)
 
 -- the place after one at which a neighbour stands
-abbrev pub place_after : Option Neighbour → ℕ → ℕ
-place_after None k = k
-place_after (Some _) k = k + 1
+abbrev pub next_place : Option Neighbour → ℕ → ℕ
+next_place None k = k
+next_place (Some _) k = k + 1
 
 -- s gave the neighbour at its place, or none past the last, and stands at the next place
 abbrev pub StepsOn : {N : Type 0} → (N → Net) → Neighbourhood N → Option Neighbour → Neighbourhood N → Type 0
-StepsOn value s r s' = Neighbours (value s.net.now).graph s.terminal s.node s.place r × Stands s.net.now s.terminal s.node (place_after r s.place) s'
+StepsOn value s r s' = Neighbours (value s.net.now).graph s.terminal s.node s.place r × Stands s.net.now s.terminal s.node (next_place r s.place) s'

@@ -1,5 +1,5 @@
 -- The log of a run: the paths that it has carried out, and their words in the trail.
-use Rattle.std.specs.Prelude.{◌≡◌, ℕ, ◌+◌, ◌^◌, ◌<◌, ◌≤◌, true, List, [], ◌++◌, length, take, drop, slice_set}
+use Rattle.std.specs.Prelude.{◌≡◌, ℕ, ◌+◌, ◌^◌, ◌<◌, ◌≤◌, true, List, [], ◌++◌, length, take, drop}
 use Rattle.network.specs.Nets.{Net}
 use Rattle.network.specs.Cuts.{Selection, cost}
 use Rattle.network.specs.Paths.{Path, Augmenting, carried, Successive, carried_all, gain, path_words, trail_words}
@@ -56,10 +56,6 @@ SomeFurther v w before after so_far more = (p : Path) × Further v w before afte
 -- paths led from v to w, one after another, and their words stand behind those of the log
 abbrev pub Steps : Net → Net → List ℕ → List ℕ → Log → Log → Type 0
 Steps v w before after so_far more = (u : Net) (trail : List ℕ) → SomeLogged u v trail before so_far → SomeLogged u w trail after more
-
--- ws with the words of a path that stand before its arcs: how many arcs, the amount and the first node
-abbrev pub headed : List ℕ → ℕ → ℕ → ℕ → List ℕ
-headed ws k x u = slice_set (slice_set (slice_set ws 0 k) 1 x) 2 u
 
 -- the path of a single node
 abbrev pub node_path : ℕ → ℕ → Path

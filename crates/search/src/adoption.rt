@@ -24,7 +24,8 @@ pub(crate) struct Offer {
 // The nearer of two parents; the first if both are as near. No `min_by_key` over the neighbours, which was tried: asking one writes to
 // the table, and a proof does not know afterwards what a closure wrote.
 fn nearer(best: Option<Offer>, other: Offer) -> Offer
-    ensures { (Some result ≡ best) ⊎ (result ≡ other) }
+    ensures one { (Some result ≡ best) ⊎ (result ≡ other) }
+    ensures nearest { (result.distance ≤ other.distance) × ((o : Offer) → best ≡ Some o → result.distance ≤ o.distance) }
 {
     best.filter(|offer| offer.distance <= other.distance)
         .unwrap_or(other)

@@ -1,7 +1,8 @@
-// The paths of single nodes, which a run carries out first, and the log of paths.
-ghost use Rattle.std.specs.Prelude.{◌≡◌, ◌+◌, ◌^◌, ◌<◌, ◌≤◌, min, length, cond};
+// The paths of single nodes, which a run carries out first; and what all paths share, the log and the words before a path's arcs.
+ghost use Rattle.std.specs.Prelude.{◌≡◌, ◌+◌, ◌^◌, ◌<◌, ◌≤◌, min, [], ◌∷◌, length, cond};
 ghost use Rattle.network.specs.declared.terminal.Terminal.TheVariants.{Source, Sink};
-ghost use Rattle.search.specs.Trails.{headed, no_log, Bounded, Further, node_path, SomeLogged, Started};
+ghost use Rattle.trees.specs.Climbs.{Written};
+ghost use Rattle.search.specs.Trails.{no_log, Bounded, Further, node_path, SomeLogged, Started};
 
 use super::reading::{take_from, terminal_residual};
 use super::report::{Log, Outcome};
@@ -26,7 +27,7 @@ impl Log {
 // Writes the words of a path that stand before its arcs: how many arcs there are, the amount and the first node.
 pub(crate) fn write_head(words: &mut [u64], arcs: usize, amount: u64, first: usize)
     requires { 3 ≤ length words.old }
-    ensures { words.new ≡ headed words.old arcs amount first }
+    ensures { Written words.old words.new (arcs ∷ amount ∷ first ∷ []) }
 {
     words[0] = arcs as u64;
     words[1] = amount;

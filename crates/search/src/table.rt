@@ -38,12 +38,14 @@ impl<'a> Table<'a> {
         }
     }
 
+    // The records of all nodes.
     pub(crate) fn records(&self) -> &[Work]
         ensures { result.now ≡ records_of self.now }
     {
         self.work
     }
 
+    // The record of a node.
     pub(crate) fn work(&self, node: usize) -> &Work
         requires { node < (forest_of self.now).size }
         ensures { result.now ≡ record_of self.now node }

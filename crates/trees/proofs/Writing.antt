@@ -32,10 +32,11 @@ three (a ∷ []) room = absurd (omega arith)
 three (a ∷ b ∷ []) room = absurd (omega arith)
 three (a ∷ b ∷ c ∷ more) room = (a, b, c, more, refl)
 
-pub three_words : (before part xs : List ℕ) (k x u : ℕ) → 3 ≤ length before → Written (take (length before - 3) (drop 3 before)) part xs → Written before (set (set (set (put_mid 3 (length before - 3) before part) 0 k) 1 x) 2 u) (k ∷ x ∷ u ∷ xs)
-three_words before part xs k x u room w =
+-- other words in their place, with xs written behind them
+pub three_words : (before part after xs : List ℕ) (k x u : ℕ) → 3 ≤ length before → Written (take (length before - 3) (drop 3 before)) part xs → Written (put_mid 3 (length before - 3) before part) after (k ∷ x ∷ u ∷ []) → Written before after (k ∷ x ∷ u ∷ xs)
+three_words before part after xs k x u room w head =
     let (a, b, c, more, is) = three before room in
-    rw is (ap (λ ys. set (set (set ys 0 k) 1 x) 2 u) (three_kept a b c more part xs (rw is at w)))
+    rw is ((rw is at head) ∙ ap (λ ys. k ∷ x ∷ u ∷ drop 3 ys) (three_kept a b c more part xs (rw is at w)))
 
 -- what is written over the part from 3 on is read there
 pub read_after_three : (before part xs : List ℕ) (k : ℕ) → 3 ≤ length before → k ≡ length xs → Written (take (length before - 3) (drop 3 before)) part xs → take (3 + k - 3) (drop 3 (put_mid 3 (length before - 3) before part)) ≡ xs

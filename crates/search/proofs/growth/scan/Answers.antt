@@ -1,5 +1,5 @@
 use Rattle.std.proofs.Common.{◌+◌, arith, rules}
-use Rattle.search.proofs.Neighbours.{met, passed}
+use Rattle.search.proofs.Neighbours.{met, past_last}
 use Rattle.search.proofs.Scanning.{scanning_there, scanning_more, scanning_grown, scanning_ends}
 use Rattle.search.proofs.growth.scan.Goals as goal
 
@@ -28,4 +28,4 @@ loop-next-preserved-then-eq g c =
 pub returns-clause-trees : goal.returns-clause-trees
 returns-clause-trees g c =
     let (k, stands, s) = c.loop-next.invariant in
-    scanning_ends (g.N.Network.lawful c.args.net.now) s (passed g.N.Network.value stands c.in-None.ensures.steps)
+    scanning_ends (g.N.Network.lawful c.args.net.now) s (past_last g.N.Network.value stands c.in-None.ensures.steps)

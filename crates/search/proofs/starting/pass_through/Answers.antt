@@ -1,9 +1,8 @@
-use Rattle.std.proofs.Common.{◌-◌, ◌≤◌, [], ◌∷◌, ◌++◌, length, take, drop, sym, ap, ◌∙◌, arith}
-use Rattle.std.proofs.lemmas.List.{take_rest, length-drop}
+use Rattle.std.proofs.Common.{[], ◌∷◌, ◌++◌, take, drop, sym, ap, ◌∙◌, arith}
 use Rattle.network.specs.declared.terminal.Terminal.TheVariants.{Sink}
 use Rattle.network.specs.Nets.{Net, taken}
 use Rattle.search.specs.declared.report.Log.{Log}
-use Rattle.search.proofs.Behind.{put_behind, set_three, single}
+use Rattle.search.proofs.Behind.{put_behind, single}
 use Rattle.search.proofs.starting.pass_through.Goals as goal
 
 pub returns : goal.returns
@@ -13,11 +12,10 @@ returns g c =
     let x = c.args.amount in
     let trail = c.args.trail.now in
     let n = c.args.log.now.words in
-    let long : 3 ≤ length (take (length trail - n) (drop n trail)) = omega (arith, ap length (take_rest trail n), length-drop n trail, c.requires.room) in
     record {
       augmenting = single v u x c.requires.there c.requires.some c.requires.least;
       value = c.take_from-2.ensures ∙ ap (λ (w : Net). taken w Sink u x) c.take_from.ensures;
       log = c.with.ensures;
       fits = omega (arith, ap (λ (l : Log). l.words) c.with.ensures);
-      trail = put_behind trail _ (0 ∷ x ∷ u ∷ []) n (omega (arith, c.requires.room)) (rw c.write_head.ensures (set_three (take (length trail - n) (drop n trail)) 0 x u long)) ∙ ap (λ k. take n trail ++ ((0 ∷ x ∷ u ∷ []) ++ drop k trail)) (sym (ap (λ (l : Log). l.words) c.with.ensures));
+      trail = put_behind trail _ (0 ∷ x ∷ u ∷ []) n (omega (arith, c.requires.room)) c.write_head.ensures ∙ ap (λ k. take n trail ++ ((0 ∷ x ∷ u ∷ []) ++ drop k trail)) (sym (ap (λ (l : Log). l.words) c.with.ensures));
     }

@@ -2,7 +2,7 @@ use Rattle.std.proofs.Common.{arith, ap, ◌+◌}
 use Rattle.trees.specs.Trees.{adoption_left}
 use Rattle.trees.proofs.Efforts.{adoption_freed}
 use Rattle.search.specs.Tables.{forest_of}
-use Rattle.search.proofs.Neighbours.{met, passed}
+use Rattle.search.proofs.Neighbours.{met, past_last}
 use Rattle.search.proofs.Offers.{beside_inward, inward_there}
 use Rattle.search.proofs.Freeing.{freeing_after, freeing_ends}
 use Rattle.search.proofs.adoption.Adoption.free.Goals as goal
@@ -28,7 +28,7 @@ pub returns : goal.returns
 returns g c =
     let n = (g.N.Network.value c.args.self.now.net.now).graph.nodes in
     let (k, stands, s) = c.loop-next.invariant in
-    let (trees, survey) = freeing_ends (g.N.Network.lawful c.args.self.now.net.now) s (passed g.N.Network.value stands c.in-None.ensures.steps) in
+    let (trees, survey) = freeing_ends (g.N.Network.lawful c.args.self.now.net.now) s (past_last g.N.Network.value stands c.in-None.ensures.steps) in
     record {
       trees = rw c.set_tree.ensures trees;
       survey = rw c.set_tree.ensures survey;

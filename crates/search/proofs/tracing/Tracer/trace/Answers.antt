@@ -29,4 +29,4 @@ returns g c =
     let some = some_node l c.requires.bridge in
     let room : 3 ≤ length before = omega arith in
     let least = rw (read_after_three before c.trace_arcs-count.new.arcs arcs w.count room count written) at c.smallest-amount.ensures in
-    traced v (forest_of c.args.self.now.table.now) before _ w arcs x count way least (rw c.write_head.ensures (three_words before c.trace_arcs-count.new.arcs arcs w.count x w.first room written))
+    traced v (forest_of c.args.self.now.table.now) before _ w arcs x count way least (three_words before c.trace_arcs-count.new.arcs c.write_head.new.words arcs w.count x w.first room written c.write_head.ensures)
