@@ -1,4 +1,5 @@
 pub mod Nets
+pub mod Keeping
 pub mod Refusals
 pub mod Answers
 pub mod Cuts

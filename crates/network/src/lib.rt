@@ -3,6 +3,7 @@
 
 ghost use Rattle.std.specs.Prelude.{◌≡◌};
 ghost use Rattle.network.specs.Nets.{Net, Lawful};
+ghost use Rattle.network.specs.Keeping.{Keeping};
 ghost use Rattle.network.specs.Answers.{terminal_answer, place_answer, ends_answer, residual_answer, take_answer, after_take, shift_answer, after_shift};
 
 mod mark;
@@ -21,6 +22,12 @@ pub trait Network {
 
     // its laws, which each `impl` proves
     ghost lawful: { (x : Self) → Lawful (value x) };
+
+    // what it keeps besides its value: `keeps x y` says that y still holds whatever x held that its value does not tell
+    ghost keeps: { Self → Self → Type 0 };
+
+    // staying as it is keeps that, and so does one change after another, as each `impl` proves
+    ghost keeping: { Keeping keeps };
 
     fn node_count(&self) -> usize
         ensures { result ≡ (value self.now).graph.nodes };
@@ -43,10 +50,12 @@ pub trait Network {
     // Lowers a terminal residual of the node.
     fn take(&mut self, terminal: Terminal, node: usize, amount: u64) -> Result<(), NetworkRefusal>
         ensures answer { result ≡ take_answer (value self.old) terminal node amount }
-        ensures after { value self.new ≡ after_take (value self.old) terminal node amount };
+        ensures after { value self.new ≡ after_take (value self.old) terminal node amount }
+        ensures kept { keeps self.old self.new };
 
     // Lowers the arc's residual and raises its reverse's by the same.
     fn shift(&mut self, arc: usize, amount: u64) -> Result<(), NetworkRefusal>
         ensures answer { result ≡ shift_answer (value self.old) arc amount }
-        ensures after { value self.new ≡ after_shift (value self.old) arc amount };
+        ensures after { value self.new ≡ after_shift (value self.old) arc amount }
+        ensures kept { keeps self.old self.new };
 }

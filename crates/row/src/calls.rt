@@ -3,7 +3,7 @@ ghost use Rattle.std.specs.Prelude.{◌≡◌, map, Ok};
 ghost use Rattle.network.specs.Answers.{at_arc, at_node};
 ghost use Rattle.row.specs.Cells.{capped};
 ghost use Rattle.row.specs.Rows.{cell_at, owner, way_of};
-ghost use Rattle.row.specs.Values.{cells_of, row_value, row_lawful};
+ghost use Rattle.row.specs.Values.{cells_of, row_value, row_lawful, row_keeps, row_keeping};
 
 use super::Row;
 use super::cell::{Cell, Way};
@@ -13,9 +13,11 @@ use network::{Network, NetworkRefusal, Terminal};
 const MOST_NODES: usize = 4096;
 
 impl<'a> Row<'a> {
-    // A row over these cells, in which each amount above 2^39 is lowered to that first.
+    // A row over these cells, in which each amount above 2^39 is lowered to that first. That it is the same slice, told by the name of
+    // its borrow, lets whoever lent the cells know what he finds in them when the row is gone.
     pub fn new(cells: &'a mut [Cell]) -> Row<'a>
-        ensures { cells_of result ≡ map capped cells.old }
+        ensures cells { cells_of result ≡ map capped cells.old }
+        ensures same_slice { result.cells.ghost_name ≡ cells.entry.ghost_name }
     {
         for cell in cells.iter_mut() {
             *cell = cell.capped();
@@ -47,6 +49,10 @@ impl<'a> Network for Row<'a> {
     ghost value = { row_value };
 
     ghost lawful = { row_lawful };
+
+    ghost keeps = { row_keeps };
+
+    ghost keeping = { row_keeping };
 
     fn node_count(&self) -> usize {
         self.cells.len().min(MOST_NODES)

@@ -19,6 +19,7 @@ fn send<N: Network>(net: &mut N, table: &mut Table, arc: usize, amount: u64)
     requires onward { OnwardArc (N.Network.value net.old) (forest_of table.old) arc }
     requires room { amount ≤ (N.Network.value net.old).residual arc }
     ensures value { N.Network.value net.new ≡ shifted (N.Network.value net.old) arc amount }
+    ensures kept { N.Network.keeps net.old net.new }
     ensures trees { Trees (N.Network.value net.new) (forest_of table.new) }
     ensures same { Carries (forest_of table.old) (forest_of table.new) }
 {
@@ -42,6 +43,7 @@ fn take_end<N: Network>(
     requires some { 0 < amount }
     requires room { amount ≤ (N.Network.value net.old).terminal terminal node }
     ensures value { N.Network.value net.new ≡ taken (N.Network.value net.old) terminal node amount }
+    ensures kept { N.Network.keeps net.old net.new }
     ensures trees { Trees (N.Network.value net.new) (forest_of table.new) }
     ensures same { Carries (forest_of table.old) (forest_of table.new) }
 {
@@ -56,6 +58,7 @@ fn send_along<N: Network>(net: &mut N, table: &mut Table, amount: u64, arcs: &[u
     requires trees { Trees (N.Network.value net.old) (forest_of table.old) }
     requires way { Way (N.Network.value net.old) (forest_of table.old) amount arcs.now }
     ensures value { N.Network.value net.new ≡ shifted_along (N.Network.value net.old) arcs.now amount }
+    ensures kept { N.Network.keeps net.old net.new }
     ensures trees { Trees (N.Network.value net.new) (forest_of table.new) }
     ensures same { Carries (forest_of table.old) (forest_of table.new) }
 {
@@ -71,6 +74,7 @@ pub(crate) fn carry<N: Network>(net: &mut N, table: &mut Table, path: Traced, ar
     requires end { path.last ≡ last_node (N.Network.value net.old).graph path.first arcs.now }
     requires onward { AllOnward (N.Network.value net.old).graph (forest_of table.old) arcs.now }
     ensures value { N.Network.value net.new ≡ carried (N.Network.value net.old) (path_of path arcs.now) }
+    ensures kept { N.Network.keeps net.old net.new }
     ensures trees { Trees (N.Network.value net.new) (forest_of table.new) }
     ensures same { Carries (forest_of table.old) (forest_of table.new) }
 {

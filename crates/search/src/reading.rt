@@ -99,7 +99,8 @@ pub(crate) fn terminal_residual<N: Network>(net: &N, terminal: Terminal, node: u
 pub(crate) fn shift_along<N: Network>(net: &mut N, arc: usize, amount: u64)
     requires there { There (N.Network.value net.old).graph arc }
     requires room { amount ≤ (N.Network.value net.old).residual arc }
-    ensures { N.Network.value net.new ≡ shifted (N.Network.value net.old) arc amount }
+    ensures value { N.Network.value net.new ≡ shifted (N.Network.value net.old) arc amount }
+    ensures kept { N.Network.keeps net.old net.new }
 {
     net.shift(arc, amount).unwrap();
 }
@@ -108,7 +109,8 @@ pub(crate) fn shift_along<N: Network>(net: &mut N, arc: usize, amount: u64)
 pub(crate) fn take_from<N: Network>(net: &mut N, terminal: Terminal, node: usize, amount: u64)
     requires there { node < (N.Network.value net.old).graph.nodes }
     requires room { amount ≤ (N.Network.value net.old).terminal terminal node }
-    ensures { N.Network.value net.new ≡ taken (N.Network.value net.old) terminal node amount }
+    ensures value { N.Network.value net.new ≡ taken (N.Network.value net.old) terminal node amount }
+    ensures kept { N.Network.keeps net.old net.new }
 {
     net.take(terminal, node, amount).unwrap();
 }

@@ -34,6 +34,7 @@ fn augment<N: Network>(
     requires room { log.old.words + ((N.Network.value net.old).graph.nodes + 2) ≤ length trail.old }
     requires bounded { Bounded (N.Network.value net.old) log.old }
     ensures further { SomeFurther (N.Network.value net.old) (N.Network.value net.new) trail.old trail.new log.old log.new }
+    ensures kept { N.Network.keeps net.old net.new }
     ensures trees { Trees (N.Network.value net.new) (forest_of table.new) }
     ensures stages { (forest_of table.new).stage ≡ (forest_of table.old).stage }
 {
@@ -57,6 +58,7 @@ fn search_on<N: Network>(
     requires bounded { Bounded (N.Network.value net.old) log.old }
     ensures size { (forest_of table.new).size ≡ (N.Network.value net.old).graph.nodes }
     ensures steps { Steps (N.Network.value net.old) (N.Network.value net.new) trail.old trail.new log.old log.new }
+    ensures kept { N.Network.keeps net.old net.new }
     ensures searched { Searched (N.Network.value net.new) (forest_of table.new) trail.new log.new result }
 {
     let count = net.node_count();
@@ -75,6 +77,7 @@ fn search<N: Network>(net: &mut N, work: &mut [Work], trail: &mut [u64], marks: 
     requires records { length work.old ≡ (N.Network.value net.old).graph.nodes }
     requires bytes { length marks.old ≡ (N.Network.value net.old).graph.nodes }
     ensures logged { SomeLogged (N.Network.value net.old) (N.Network.value net.new) trail.old trail.new result.log }
+    ensures kept { N.Network.keeps net.old net.new }
     ensures ended { Ended (N.Network.value net.new) trail.new result.log marks.old marks.new result.outcome }
 {
     let mut log = Log::default();
@@ -94,7 +97,7 @@ fn search<N: Network>(net: &mut N, work: &mut [Work], trail: &mut [u64], marks: 
 }
 
 // Carries out augmenting paths on the network until none is left, or until a path is left and fewer words of the trail are
-// unused than it may take. A finished run marks each node.
+// unused than it may take. A finished run marks each node. What the network keeps besides its value it keeps through every run.
 pub fn run<N: Network>(
     net: &mut N,
     work: &mut [Work],
@@ -102,6 +105,7 @@ pub fn run<N: Network>(
     marks: &mut [u8],
 ) -> Result<Report, RunRefusal>
     ensures ran { Run (N.Network.value net.old) (record { work = work.old; trail = trail.old; marks = marks.old }) result (N.Network.value net.new) (record { work = work.new; trail = trail.new; marks = marks.new }) }
+    ensures kept { N.Network.keeps net.old net.new }
     ensures promise { Promise (N.Network.value net.old) result (N.Network.value net.new) (record { work = work.new; trail = trail.new; marks = marks.new }) }
 {
     let count = net.node_count();

@@ -61,7 +61,8 @@ fn pass_through<N: Network>(net: &mut N, trail: &mut [u64], log: &mut Log, node:
     requires least { amount ≡ min ((N.Network.value net.old).terminal Source node) ((N.Network.value net.old).terminal Sink node) }
     requires room { log.old.words + 3 ≤ length trail.old }
     requires bounded { Bounded (N.Network.value net.old) log.old }
-    ensures { Further (N.Network.value net.old) (N.Network.value net.new) trail.old trail.new log.old log.new (node_path node amount) }
+    ensures further { Further (N.Network.value net.old) (N.Network.value net.new) trail.old trail.new log.old log.new (node_path node amount) }
+    ensures kept { N.Network.keeps net.old net.new }
 {
     take_from(net, Terminal::Source, node, amount);
     take_from(net, Terminal::Sink, node, amount);
@@ -73,6 +74,7 @@ fn pass_through<N: Network>(net: &mut N, trail: &mut [u64], log: &mut Log, node:
 pub(crate) fn start<N: Network>(net: &mut N, trail: &mut [u64], log: &mut Log) -> Outcome
     requires new { log.old ≡ no_log }
     ensures logged { SomeLogged (N.Network.value net.old) (N.Network.value net.new) trail.old trail.new log.new }
+    ensures kept { N.Network.keeps net.old net.new }
     ensures started { Started (N.Network.value net.new) trail.new log.new result }
 {
     let count = net.node_count();

@@ -24,3 +24,8 @@ take_end-requires-2 g c =
     let End : Net → ℕ → Type 0 = λ v u. (u < v.graph.nodes) × (x ≤ v.terminal Sink u) in
     let (there, room) = subst₂ End (sym value) (sym c.requires.end) (path_end _ _ (g.N.Network.lawful c.args.net.now) path) in
     record { trees = sent.trees; there = there; some = some_amount _ _ path; room = room }
+
+pub returns-clause-kept : goal.returns-clause-kept
+returns-clause-kept g c =
+    let k = g.N.Network.keeping in
+    k.then _ _ _ c.take_end.ensures.kept (k.then _ _ _ c.send_along.ensures.kept c.take_end-2.ensures.kept)

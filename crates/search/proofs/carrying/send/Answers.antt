@@ -14,7 +14,7 @@ returns-clause-trees g c =
     let a = c.args.arc in
     let x = c.args.amount in
     let (e, is, onward) = c.requires.onward in
-    rw c.shift_along.ensures (elim c.if-residual-amount.branch [
+    rw c.shift_along.ensures.value (elim c.if-residual-amount.branch [
       | then-residual-amount w ↦
           let ends = ends_are v.graph a e is in
           let bare = bared_is f _ _ a _ _ e w.disown.ensures w.disown-then-residual-amount.ensures (w.near_end.ensures ∙ ap (λ (y : Ends). y.tail) ends) (w.near_end-then-residual-amount.ensures ∙ ap (λ (y : Ends). y.head) ends) in

@@ -13,4 +13,5 @@ loop-arc-preserved g c =
     let sent = c.send.ensures in (
       sending_more (g.N.Network.lawful c.loop-arc.net) c.loop-arc-test.true sent.value sent.trees sent.same.trees c.loop-arc.invariant.0,
       carries_more _ _ _ c.loop-arc.invariant.1 sent.same,
+      g.N.Network.keeping.then _ _ _ c.loop-arc.invariant.2 sent.kept,
     )

@@ -9,8 +9,8 @@ returns-then-terminal_residual-eq0-clause-trees g c =
     let t = c.args.terminal in
     let u = c.args.node in
     let x = c.args.amount in
-    let all : v.terminal t u ≡ x = omega (arith, rw c.take_from.ensures at c.terminal_residual.ensures, taken_here v t u x, c.requires.room) in
-    rw (c.take_from.ensures, c.orphan.ensures) (take_all_trees v (forest_of c.args.table.now) t u x c.requires.trees c.requires.there (omega arith) all)
+    let all : v.terminal t u ≡ x = omega (arith, rw c.take_from.ensures.value at c.terminal_residual.ensures, taken_here v t u x, c.requires.room) in
+    rw (c.take_from.ensures.value, c.orphan.ensures) (take_all_trees v (forest_of c.args.table.now) t u x c.requires.trees c.requires.there (omega arith) all)
 
 pub returns-else-terminal_residual-eq0-clause-trees : goal.returns-else-terminal_residual-eq0-clause-trees
 returns-else-terminal_residual-eq0-clause-trees g c =
@@ -18,4 +18,4 @@ returns-else-terminal_residual-eq0-clause-trees g c =
     let t = c.args.terminal in
     let u = c.args.node in
     let x = c.args.amount in
-    rw c.take_from.ensures (take_part_trees v (forest_of c.args.table.now) t u x c.requires.trees (omega (arith, rw c.take_from.ensures at c.terminal_residual.ensures, taken_here v t u x)))
+    rw c.take_from.ensures.value (take_part_trees v (forest_of c.args.table.now) t u x c.requires.trees (omega (arith, rw c.take_from.ensures.value at c.terminal_residual.ensures, taken_here v t u x)))

@@ -5,8 +5,8 @@ use Rattle.search.specs.declared.report.Log.{Log}
 use Rattle.search.proofs.Behind.{put_behind, single}
 use Rattle.search.proofs.starting.pass_through.Goals as goal
 
-pub returns : goal.returns
-returns g c =
+pub returns-clause-further : goal.returns-clause-further
+returns-clause-further g c =
     let v = g.N.Network.value c.args.net.now in
     let u = c.args.node in
     let x = c.args.amount in
@@ -14,8 +14,11 @@ returns g c =
     let n = c.args.log.now.words in
     record {
       augmenting = single v u x c.requires.there c.requires.some c.requires.least;
-      value = c.take_from-2.ensures ∙ ap (λ (w : Net). taken w Sink u x) c.take_from.ensures;
+      value = c.take_from-2.ensures.value ∙ ap (λ (w : Net). taken w Sink u x) c.take_from.ensures.value;
       log = c.with.ensures;
       fits = omega (arith, ap (λ (l : Log). l.words) c.with.ensures);
       trail = put_behind trail _ (0 ∷ x ∷ u ∷ []) n (omega (arith, c.requires.room)) c.write_head.ensures ∙ ap (λ k. take n trail ++ ((0 ∷ x ∷ u ∷ []) ++ drop k trail)) (sym (ap (λ (l : Log). l.words) c.with.ensures));
     }
+
+pub returns-clause-kept : goal.returns-clause-kept
+returns-clause-kept g c = g.N.Network.keeping.then _ _ _ c.take_from.ensures.kept c.take_from-2.ensures.kept

@@ -27,16 +27,16 @@ loop-node-preserved g c =
     let v = g.N.Network.value c.loop-node.net in
     let u = c.loop-node.node in
     let x = c.amount_through-amount.result in
-    let ((ps, logged), apart) = c.loop-node.invariant in
+    let ((ps, logged), apart, kept) = c.loop-node.invariant in
     elim c.if-amount-gt0.branch [
       | then-amount-gt0+else-is_short w ↦
-          let further = w.pass_through.ensures in
-          rw (w.net-is, w.trail-is, w.log-is) ((ps ++ node_path u x ∷ [], logged_more logged further), apart_passed v _ u x apart c.amount_through-amount.ensures further.value)
-      | else-amount-gt0 w ↦ rw (w.net-is, w.trail-is, w.log-is) ((ps, logged), apart_more v u apart (λ some more. omega arith))
+          let further = w.pass_through.ensures.further in
+          rw (w.net-is, w.trail-is, w.log-is) ((ps ++ node_path u x ∷ [], logged_more logged further), apart_passed v _ u x apart c.amount_through-amount.ensures further.value, g.N.Network.keeping.then _ _ _ kept w.pass_through.ensures.kept)
+      | else-amount-gt0 w ↦ rw (w.net-is, w.trail-is, w.log-is) ((ps, logged), apart_more v u apart (λ some more. omega arith), kept)
     ]
 
 pub returns-clause-started : goal.returns-clause-started
 returns-clause-started g c =
-    let (logged, apart) = c.loop-node.invariant in
+    let (logged, apart, _) = c.loop-node.invariant in
     let same = logged_nodes (g.N.Network.lawful c.args.net.now) logged in
     λ u there. apart u (omega arith)
