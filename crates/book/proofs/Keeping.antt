@@ -1,15 +1,18 @@
 -- What holds of an open book's table, kept by each entry and each need.
-use Rattle.std.proofs.Common.{◌≡◌, ℕ, ◌+◌, ◌*◌, ◌<◌, ◌≤◌, eqb, [], map, length, add-one, arith}
+use Rattle.std.proofs.Common.{◌≡◌, ℕ, ◌+◌, ◌*◌, ◌<◌, ◌≤◌, Bool, cond, eqb, List, [], ◌∷◌, ◌++◌, map, length, filter, refl, sym, ◌∙◌, ap, add-one, arith}
 use Rattle.std.specs.List.{range_with_len}
 use Rattle.std.proofs.ByRecursion.{All-map}
 use Rattle.std.proofs.lemmas.Bool.{ne_eqb}
 use Rattle.std.proofs.lemmas.Bool.Decides.{nat_tests}
+use Rattle.std.proofs.lemmas.List.{append-nil, length-append, map-append}
+use Rattle.std.proofs.lemmas.List.Elements.{filter-append}
+use Rattle.std.proofs.lemmas.List.FromFn.{map-range_with_len_more}
 use Rattle.network.specs.Cuts.{sum_below}
-use Rattle.network.proofs.Sums.{sum_same}
-use Rattle.book.specs.Books.{Need, needs_of, mate}
+use Rattle.network.proofs.Sums.{sum_same, sum_differs}
+use Rattle.book.specs.Books.{Need, needs_of, mate, binding, no_need, with_need}
 use Rattle.book.specs.Tables.{Columns, need_in, book_in, arcs_of, SmallAmounts, HeadsThere, Unsent, NeedsNoted, AtMostFour, NeedsCounted, ArcsCounted}
-use Rattle.book.specs.Writes.{with_entry_at}
-use Rattle.book.proofs.Counts.{kept_none, all_counting}
+use Rattle.book.specs.Writes.{with_entry_at, with_arc, with_arcs, with_needed}
+use Rattle.book.proofs.Counts.{map_same, kept_same, kept_more, kept_none, all_counting}
 
 -- what holds of the columns of n entries and m needs
 pub record Kept (c : Columns) (n m : ℕ) : Type 0 where
@@ -48,4 +51,59 @@ kept_entry c n m x y k small-x small-y =
           let last : length (d.needed n) ≡ 0 = grind (arith, nat_tests) in
           rw add-one (omega (arith, k.counted));
       arcs = λ u h. let none = no_arcs c n m k.heads in grind (arith, nat_tests, k.arcs u);
+    }
+
+-- need number m, that u needs w: both have an arc more
+abbrev pub with_need_at : Columns → ℕ → ℕ → ℕ → Columns
+with_need_at c m u w = let d = with_needed c u w in with_arc (with_arc (with_arcs d w (d.arcs w + 1)) (2 * m) w binding) (2 * m + 1) u 0
+
+-- they tell the needs that they told, and this one
+needs_told : (c : Columns) (m u w : ℕ) → map (need_in (with_need_at c m u w)) (range_with_len 0 (m + 1)) ≡ map (need_in c) (range_with_len 0 m) ++ record { entry = u; needed = w } ∷ []
+needs_told c m u w =
+    let d = with_need_at c m u w in
+    let old : (k : ℕ) → k < m → need_in d k ≡ need_in c k = λ k h. grind (arith, nat_tests) in
+    let new : need_in d m ≡ record { entry = u; needed = w } = grind (arith, nat_tests) in
+    map-range_with_len_more (need_in d) 0 m m (omega arith) ∙ (let all = map_same _ _ m no_need old in cc)
+
+pub book_need : (c : Columns) (n m u w : ℕ) → book_in (with_need_at c m u w) n (m + 1) ≡ with_need (book_in c n m) u w
+book_need c n m u w = λ i. record { entries = (book_in c n m).entries; needs = needs_told c m u w i }
+
+-- with one need more, the entry that has it needs one more
+needs_more : (v : ℕ) (ns : List Need) (x : Need) → needs_of v (ns ++ x ∷ []) ≡ needs_of v ns ++ cond (eqb x.entry v) (x.needed ∷ []) []
+needs_more v ns x =
+    let parts = filter-append (λ (y : Need). eqb y.entry v) ns (x ∷ []) in
+    let names = map-append (λ (y : Need). y.needed) (filter (λ (y : Need). eqb y.entry v) ns) (filter (λ (y : Need). eqb y.entry v) (x ∷ [])) in
+    grind (arith, nat_tests)
+
+-- and each of its two entries has an arc more
+arcs_more : (c : Columns) (m u w v : ℕ) → arcs_of (with_need_at c m u w) (m + 1) v ≡ (arcs_of c m v ++ cond (eqb u v) ((2 * m) ∷ []) []) ++ cond (eqb w v) ((2 * m + 1) ∷ []) []
+arcs_more c m u w v =
+    let d = with_need_at c m u w in
+    let p : ℕ → Bool = λ a. eqb (d.head (mate a)) v in
+    let old = kept_same p (λ a. eqb (c.head (mate a)) v) (2 * m) (λ a h. let low = mate_below a m h in grind (arith, nat_tests)) in
+    let first : d.head (mate (2 * m)) ≡ u = grind (arith, nat_tests) in
+    let second : d.head (mate (2 * m + 1)) ≡ w = grind (arith, nat_tests) in
+    let more : filter p (range_with_len 0 (2 * m + 1)) ≡ arcs_of c m v ++ cond (eqb u v) ((2 * m) ∷ []) [] = kept_more p (2 * m) ∙ rw (old, first) refl in
+    let most : filter p (range_with_len 0 (2 * m + 1 + 1)) ≡ filter p (range_with_len 0 (2 * m + 1)) ++ cond (eqb w v) ((2 * m + 1) ∷ []) [] = kept_more p (2 * m + 1) ∙ rw second refl in
+    let count : 2 * (m + 1) ≡ 2 * m + 1 + 1 = omega arith in
+    rw (count, most, more) refl
+
+-- a need more, of an entry that has room for it
+pub kept_need : (c : Columns) (n m u w : ℕ) → Kept c n m → u < n → w < n → (u ≡ w → ⊥) → length (c.needed u) < 4 → Kept (with_need_at c m u w) n (m + 1)
+kept_need c n m u w k there needed_there others few =
+    let d = with_need_at c m u w in
+    record {
+      amounts = k.amounts;
+      heads = λ a h. grind (arith, nat_tests, k.heads a);
+      unsent = λ i h. grind (arith, nat_tests, k.unsent i);
+      noted = λ v h.
+          let more : needs_of v (book_in d n (m + 1)).needs ≡ c.needed v ++ cond (eqb u v) (w ∷ []) [] = ap (needs_of v) (needs_told c m u w) ∙ (needs_more v (book_in c n m).needs (record { entry = u; needed = w }) ∙ rw (k.noted v h) refl) in
+          let now : d.needed v ≡ c.needed v ++ cond (eqb u v) (w ∷ []) [] = grind (arith, nat_tests, append-nil) in
+          now ∙ sym more;
+      four = λ v h. grind (arith, nat_tests, length-append, k.four v);
+      counted =
+          let rest = sum_differs n u (λ v. length (d.needed v)) (λ v. length (c.needed v)) there (λ v h. grind (arith, nat_tests)) in
+          let here : length (d.needed u) ≡ length (c.needed u) + 1 = grind (arith, nat_tests, length-append) in
+          omega (arith, k.counted);
+      arcs = λ v h. let more = arcs_more c m u w v in grind (arith, nat_tests, length-append, k.arcs v);
     }

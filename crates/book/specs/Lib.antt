@@ -4,6 +4,7 @@ pub mod Refusals
 pub mod Records
 pub mod Tables
 pub mod Writes
+pub mod Needings
 pub mod Calls
 pub mod Plans
 pub mod Values

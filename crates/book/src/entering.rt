@@ -1,13 +1,19 @@
 // The calls on an open book.
-ghost use Rattle.std.specs.Prelude.{◌≡◌, ◌-◌, ◌*◌, length};
+ghost use Rattle.std.specs.Prelude.{◌≡◌, ◌+◌, ◌-◌, ◌*◌, ◌<◌, ◌≤◌, ◌≢◌, length, sum_by, take};
 ghost use Rattle.book.specs.Books.{empty};
-ghost use Rattle.book.specs.Calls.{unused, Entered};
+ghost use Rattle.book.specs.Calls.{unused, Entered, Needed};
+ghost use Rattle.book.specs.Needings.{need_written};
+ghost use Rattle.book.specs.Plans.{total_earnings};
+ghost use Rattle.book.specs.Tables.{front};
 ghost use Rattle.book.specs.Values.{open_of};
 
 use super::held::Held;
 use super::open::OpenBook;
 use super::record::Record;
-use super::refusal::EnterRefusal;
+use super::refusal::{EnterRefusal, NeedRefusal};
+
+// What can be sent along a need: more than all earnings together.
+const BINDING: u64 = 8_000_000_000;
 
 impl<'a> OpenBook<'a> {
     // A book without entries over the table, which stays as it is.
@@ -31,6 +37,20 @@ impl<'a> OpenBook<'a> {
         self.held.entries
     }
 
+    // How many needs its entries have together.
+    pub fn need_count(&self) -> usize
+        ensures { result ≡ length (open_of self.now).book.needs }
+    {
+        self.held.needs
+    }
+
+    // What all its entries earn.
+    pub fn total_earnings(&self) -> u64
+        ensures { result ≡ total_earnings (open_of self.now).book }
+    {
+        earnings(self.entries())
+    }
+
     // How many records the table has.
     pub fn record_count(&self) -> usize
         ensures { result ≡ length (open_of self.now).table }
@@ -46,6 +66,13 @@ impl<'a> OpenBook<'a> {
         self.record_count() - self.held.entries - 2 * self.held.needs
     }
 
+    // The records of the entries.
+    fn entries(&self) -> &[Record]
+        ensures { result.now ≡ take self.now.held.entries self.now.held.table.now }
+    {
+        &self.held.table[..self.held.entries]
+    }
+
     // Enters what an entry earns and costs, and answers its number.
     pub fn enter(&mut self, earning: u32, cost: u32) -> Result<usize, EnterRefusal>
         ensures { Entered (open_of self.old) earning cost result (open_of self.new) }
@@ -58,10 +85,48 @@ impl<'a> OpenBook<'a> {
         Ok(number)
     }
 
+    // Enters that an entry needs another.
+    pub fn need(&mut self, entry: usize, needed: usize) -> Result<(), NeedRefusal>
+        ensures { Needed (open_of self.old) entry needed result (open_of self.new) }
+    {
+        NeedRefusal::check(entry, needed, self.entries(), self.unused())?;
+        let held = &mut self.held;
+        write_need(held.table, held.needs, entry as u16, needed as u16);
+        held.needs += 1;
+        Ok(())
+    }
+
     // Ends the book and gives its table back.
     pub fn release(self) -> &'a mut [Record]
         ensures { result.now ≡ (open_of self.entry).table }
     {
         self.held.release()
     }
+}
+
+// What entries with these records earn.
+fn earnings(entries: &[Record]) -> u64
+    requires { length entries.now ≤ 4096 }
+    ensures { result ≡ sum_by (λ (r : Record). r.earning) entries.now }
+{
+    entries.iter().map(|entry| u64::from(entry.earning)).sum()
+}
+
+// Writes need number `number` into a table: the entry's record tells it, both entries have an arc more, and the arcs stand from the end.
+fn write_need(table: &mut [Record], number: usize, entry: u16, needed: u16)
+    requires there { entry < length table.old }
+    requires needed_there { needed < length table.old }
+    requires others { entry ≢ needed }
+    requires room { 2 * number + 2 ≤ length table.old }
+    requires few { (front table.old entry).needs < 4 }
+    requires countable { (front table.old entry).arcs < 65535 }
+    requires needed_countable { (front table.old needed).arcs < 65535 }
+    ensures { table.new ≡ need_written table.old number entry needed }
+{
+    let (from, to) = (usize::from(entry), usize::from(needed));
+    let arc = table.len() - 1 - 2 * number;
+    table[from] = table[from].needing(needed);
+    table[to] = table[to].with_arc_more();
+    table[arc] = table[arc].as_arc(needed, BINDING);
+    table[arc - 1] = table[arc - 1].as_arc(entry, 0);
 }

@@ -1,13 +1,19 @@
 // Why an open book refuses an entry or a need, and the number of each refusal.
-ghost use Rattle.std.specs.Prelude.{◌≡◌, OnOk};
+ghost use Rattle.std.specs.Prelude.{◌≡◌, ◌≤◌, length, OnOk};
 ghost use Rattle.std.specs.Result.{result_err};
-ghost use Rattle.book.specs.Refusals.{enter_question, enter_refusal, Enters, need_question};
+ghost use Rattle.book.specs.Refusals.{enter_question, enter_refusal, Enters, need_question, need_refusal, Needs};
+ghost use Rattle.book.specs.Tables.{columns, AtMostFour};
+
+use super::record::Record;
 
 // The largest amount of an entry. It and the most entries are those of a sheet, on whose crate the book does not stand.
 const MOST_AMOUNT: u32 = 1_000_000;
 
 // The most entries that a book may have.
 const MOST_ENTRIES: usize = 4_096;
+
+// The most needs that an entry may have.
+const MOST_NEEDS: u8 = 4;
 
 // The questions put to an entry, in this order.
 #[derive(Clone, Copy, PartialEq, Eq, Debug)]
@@ -76,6 +82,35 @@ pub enum NeedRefusal {
 }
 
 impl NeedRefusal {
+    // Puts the questions to a need, where the book's entries have these records and its table so many unused ones.
+    pub(crate) fn check(
+        entry: usize,
+        needed: usize,
+        entries: &[Record],
+        unused: usize,
+    ) -> Result<(), NeedRefusal>
+        requires few { length entries.now ≤ 4096 }
+        requires four { AtMostFour (columns entries.now) (length entries.now) }
+        ensures refusal { result_err result ≡ need_refusal entry needed ((columns entries.now).needed entry) (length entries.now) unused }
+        ensures accepted { OnOk result (Needs entry needed ((columns entries.now).needed entry) (length entries.now) unused) }
+    {
+        if entry >= entries.len() || needed >= entries.len() {
+            return Err(NeedRefusal::NoEntry);
+        }
+        let record = entries[entry];
+        if entry == needed {
+            Err(NeedRefusal::Itself)
+        } else if record.has_need(needed as u16) {
+            Err(NeedRefusal::Repeated)
+        } else if record.needs >= MOST_NEEDS {
+            Err(NeedRefusal::ManyNeeds)
+        } else if unused < 2 {
+            Err(NeedRefusal::FewRecords)
+        } else {
+            Ok(())
+        }
+    }
+
     // The number of the question whose answer is no; a rule of the project has a method answer it.
     pub fn question(self) -> u8
         ensures { result ≡ need_question self }
