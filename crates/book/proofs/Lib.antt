@@ -4,3 +4,4 @@ pub mod Counts
 pub mod Plans
 pub mod Keeping
 pub mod Enterings
+pub mod Settled

@@ -6,4 +6,5 @@ pub mod Tables
 pub mod Writes
 pub mod Calls
 pub mod Plans
+pub mod Laws
 pub mod Values
