@@ -5,3 +5,4 @@ pub mod Plans
 pub mod Keeping
 pub mod Enterings
 pub mod Needings
+pub mod Settled

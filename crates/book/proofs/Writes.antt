@@ -1,12 +1,15 @@
 -- What is read of a table after a write to one record.
-use Rattle.std.proofs.Common.{◌≡◌, ℕ, ◌+◌, ◌-◌, ◌<◌, List, length, take, set, refl, ap, ◌∙◌, arith, length-set}
+use Rattle.std.proofs.Common.{◌≡◌, ℕ, ◌+◌, ◌-◌, ◌<◌, List, length, take, set, sym, refl, ap, ◌∙◌, arith, length-set}
 use Rattle.std.proofs.lemmas.List.{get_or-set_same, get_or-set_other, take_more_set}
+use Rattle.std.proofs.lemmas.Bool.{lt-ltb}
 use Rattle.std.proofs.lemmas.Bool.Decides.{nat_tests}
+use Rattle.network.specs.declared.terminal.Terminal.{Terminal}
+use Rattle.network.specs.declared.terminal.Terminal.TheVariants.{Source, Sink}
 use Rattle.network.specs.Nets.{at}
 use Rattle.book.specs.declared.record.Record.{Record}
-use Rattle.book.specs.Records.{as_entry, as_arc, needing, with_arc_more}
-use Rattle.book.specs.Tables.{no_record, front, back, columns}
-use Rattle.book.specs.Writes.{with_entry_at, with_arc, with_needed, with_arcs}
+use Rattle.book.specs.Records.{as_entry, as_arc, needing, with_arc_more, with_amount, with_residual}
+use Rattle.book.specs.Tables.{Columns, no_record, front, back, columns}
+use Rattle.book.specs.Writes.{with_entry_at, with_arc, with_needed, with_arcs, with_amount_at, with_residual_at, with_moved}
 
 front_set : (table : List Record) (i : ℕ) (r : Record) (k : ℕ) → i < length table → front (set table i r) k ≡ at (front table) i r k
 front_set table i r k h = grind (arith, nat_tests, get_or-set_same, get_or-set_other)
@@ -108,3 +111,76 @@ columns_arc table a h x there =
       residual = λ k. back_read (λ (r : Record). r.residual) table a r k there i;
       code = λ k. back_same (λ (r : Record). r.code) table j r k inside refl i;
     }
+
+pub columns_amount : (table : List Record) (t : Terminal) (u x : ℕ) → u < length table → columns (set table u (with_amount (front table u) t x)) ≡ with_amount_at (columns table) t u x
+columns_amount table Source u x h =
+    let r = with_amount (front table u) Source x in
+    λ i. record {
+      earning = λ k. front_read (λ (r : Record). r.earning) table u r k h i;
+      cost = λ k. front_same (λ (r : Record). r.cost) table u r k h refl i;
+      needed = λ k. front_same (λ (r : Record). take r.needs r.needed) table u r k h refl i;
+      count = λ k. front_same (λ (r : Record). r.needs) table u r k h refl i;
+      space = λ k. front_same (λ (r : Record). length r.needed) table u r k h refl i;
+      arcs = λ k. front_same (λ (r : Record). r.arcs) table u r k h refl i;
+      first = λ k. front_same (λ (r : Record). r.first) table u r k h refl i;
+      head = λ k. back_same (λ (r : Record). r.head) table u r k h refl i;
+      residual = λ k. back_same (λ (r : Record). r.residual) table u r k h refl i;
+      code = λ k. back_same (λ (r : Record). r.code) table u r k h refl i;
+    }
+columns_amount table Sink u x h =
+    let r = with_amount (front table u) Sink x in
+    λ i. record {
+      earning = λ k. front_same (λ (r : Record). r.earning) table u r k h refl i;
+      cost = λ k. front_read (λ (r : Record). r.cost) table u r k h i;
+      needed = λ k. front_same (λ (r : Record). take r.needs r.needed) table u r k h refl i;
+      count = λ k. front_same (λ (r : Record). r.needs) table u r k h refl i;
+      space = λ k. front_same (λ (r : Record). length r.needed) table u r k h refl i;
+      arcs = λ k. front_same (λ (r : Record). r.arcs) table u r k h refl i;
+      first = λ k. front_same (λ (r : Record). r.first) table u r k h refl i;
+      head = λ k. back_same (λ (r : Record). r.head) table u r k h refl i;
+      residual = λ k. back_same (λ (r : Record). r.residual) table u r k h refl i;
+      code = λ k. back_same (λ (r : Record). r.code) table u r k h refl i;
+    }
+
+pub columns_residual : (table : List Record) (a x : ℕ) → a < length table → columns (set table (length table - 1 - a) (with_residual (front table (length table - 1 - a)) x)) ≡ with_residual_at (columns table) a x
+columns_residual table a x there =
+    let j = length table - 1 - a in
+    let r = with_residual (front table j) x in
+    let inside : j < length table = omega arith in
+    λ i. record {
+      earning = λ k. front_same (λ (r : Record). r.earning) table j r k inside refl i;
+      cost = λ k. front_same (λ (r : Record). r.cost) table j r k inside refl i;
+      needed = λ k. front_same (λ (r : Record). take r.needs r.needed) table j r k inside refl i;
+      count = λ k. front_same (λ (r : Record). r.needs) table j r k inside refl i;
+      space = λ k. front_same (λ (r : Record). length r.needed) table j r k inside refl i;
+      arcs = λ k. front_same (λ (r : Record). r.arcs) table j r k inside refl i;
+      first = λ k. front_same (λ (r : Record). r.first) table j r k inside refl i;
+      head = λ k. back_same (λ (r : Record). r.head) table j r k inside refl i;
+      residual = λ k. back_read (λ (r : Record). r.residual) table a r k there i;
+      code = λ k. back_same (λ (r : Record). r.code) table j r k inside refl i;
+    }
+
+-- x is raised at arc b, after arc a has got another residual
+abbrev pub moved_at : List Record → ℕ → ℕ → ℕ → ℕ → List Record
+moved_at table a b left x =
+    let lowered = set table (length table - 1 - a) (with_residual (front table (length table - 1 - a)) left) in
+    let old = front lowered (length table - 1 - b) in
+    set lowered (length table - 1 - b) (with_residual old (old.residual + x))
+
+-- what arc b has before it is raised
+pub before_raised : (table : List Record) (a b : ℕ) (r : Record) → a < length table → b < length table → (a ≡ b → ⊥) → front (set table (length table - 1 - a) r) (length table - 1 - b) ≡ back table b
+before_raised table a b r there other apart =
+    let inside = lt-ltb b (length table) other in
+    front_far table (length table - 1 - a) r (length table - 1 - b) (λ same. apart (omega arith)) ∙ rw inside
+
+pub columns_moved : (table : List Record) (a b x : ℕ) → a < length table → b < length table → (a ≡ b → ⊥) → columns (moved_at table a b ((back table a).residual - x) x) ≡ with_moved (columns table) a b x
+columns_moved table a b x there other apart =
+    let left = (back table a).residual - x in
+    let raised = (back table b).residual + x in
+    let lowered = set table (length table - 1 - a) (with_residual (front table (length table - 1 - a)) left) in
+    let long : length lowered ≡ length table = length-set table _ _ in
+    let was : (front lowered (length table - 1 - b)).residual ≡ (back table b).residual = ap (λ (r : Record). r.residual) (before_raised table a b _ there other apart) in
+    ap (λ y. columns (set lowered (length table - 1 - b) (with_residual (front lowered (length table - 1 - b)) (y + x)))) was
+    ∙ ap (λ n. columns (set lowered (n - 1 - b) (with_residual (front lowered (n - 1 - b)) raised))) (sym long)
+    ∙ columns_residual lowered b raised (omega arith)
+    ∙ ap (λ (c : Columns). with_residual_at c b raised) (columns_residual table a left there)

@@ -20,12 +20,16 @@ abbrev pub unused : Open → ℕ
 unused s = length s.table - used s.book
 
 -- entries use records from the front of the table, needs from its end: a record between them is unused
-abbrev pub Unused : ℕ → Book → ℕ → Type 0
-Unused size b k = (length b.entries ≤ k) × (k + 2 * length b.needs < size)
+abbrev pub Unused : ℕ → ℕ → ℕ → ℕ → Type 0
+Unused size n m k = (n ≤ k) × (k + 2 * m < size)
 
--- the records that the book b does not use are as they were
+-- the records that n entries and m needs do not use are as they were
+abbrev pub Untouched : ℕ → ℕ → List Record → List Record → Type 0
+Untouched n m before after = (length after ≡ length before) × ((k : ℕ) → Unused (length after) n m k → front after k ≡ front before k)
+
+-- and so are those that the book b does not use
 abbrev pub Spared : Book → List Record → List Record → Type 0
-Spared b before after = (length after ≡ length before) × ((k : ℕ) → Unused (length after) b k → front after k ≡ front before k)
+Spared b before after = Untouched (length b.entries) (length b.needs) before after
 
 abbrev pub enter_refused : Open → ℕ → ℕ → Option EnterRefusal
 enter_refused s x y = enter_refusal x y (length s.book.entries) (unused s)

@@ -7,4 +7,5 @@ pub mod Writes
 pub mod Needings
 pub mod Calls
 pub mod Plans
+pub mod Laws
 pub mod Values

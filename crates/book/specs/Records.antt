@@ -1,5 +1,7 @@
 -- How a record is changed.
 use Rattle.std.specs.Prelude.{ℕ, ◌+◌, [], ◌∷◌, slice_set}
+use Rattle.network.specs.declared.terminal.Terminal.{Terminal}
+use Rattle.network.specs.declared.terminal.Terminal.TheVariants.{Source, Sink}
 use Rattle.book.specs.declared.record.Record.{Record}
 
 -- an entry of these amounts, without needs
@@ -17,3 +19,17 @@ needing r w = record { earning = r.earning; cost = r.cost; needed = slice_set r.
 -- an entry that one arc more leaves
 abbrev pub with_arc_more : Record → Record
 with_arc_more r = record { earning = r.earning; cost = r.cost; needed = r.needed; needs = r.needs; arcs = r.arcs + 1; first = r.first; head = r.head; residual = r.residual; code = r.code }
+
+-- what an entry has at a terminal
+abbrev pub amount_of : Record → Terminal → ℕ
+amount_of r Source = r.earning
+amount_of r Sink = r.cost
+
+-- an entry that has another amount there
+abbrev pub with_amount : Record → Terminal → ℕ → Record
+with_amount r Source x = record { earning = x; cost = r.cost; needed = r.needed; needs = r.needs; arcs = r.arcs; first = r.first; head = r.head; residual = r.residual; code = r.code }
+with_amount r Sink x = record { earning = r.earning; cost = x; needed = r.needed; needs = r.needs; arcs = r.arcs; first = r.first; head = r.head; residual = r.residual; code = r.code }
+
+-- an arc of another residual
+abbrev pub with_residual : Record → ℕ → Record
+with_residual r x = record { earning = r.earning; cost = r.cost; needed = r.needed; needs = r.needs; arcs = r.arcs; first = r.first; head = r.head; residual = x; code = r.code }

@@ -1,5 +1,7 @@
 -- What a write to one record changes of what a table tells.
-use Rattle.std.specs.Prelude.{ℕ, ◌+◌, [], ◌∷◌, ◌++◌}
+use Rattle.std.specs.Prelude.{ℕ, ◌+◌, ◌-◌, [], ◌∷◌, ◌++◌}
+use Rattle.network.specs.declared.terminal.Terminal.{Terminal}
+use Rattle.network.specs.declared.terminal.Terminal.TheVariants.{Source, Sink}
 use Rattle.network.specs.Nets.{at}
 use Rattle.book.specs.Tables.{Columns}
 
@@ -62,3 +64,49 @@ with_arcs c u k = record {
   residual = c.residual;
   code = c.code;
 }
+
+-- u has another amount at a terminal
+abbrev pub with_amount_at : Columns → Terminal → ℕ → ℕ → Columns
+with_amount_at c Source u x = record {
+  earning = at c.earning u x;
+  cost = c.cost;
+  needed = c.needed;
+  count = c.count;
+  space = c.space;
+  arcs = c.arcs;
+  first = c.first;
+  head = c.head;
+  residual = c.residual;
+  code = c.code;
+}
+with_amount_at c Sink u x = record {
+  earning = c.earning;
+  cost = at c.cost u x;
+  needed = c.needed;
+  count = c.count;
+  space = c.space;
+  arcs = c.arcs;
+  first = c.first;
+  head = c.head;
+  residual = c.residual;
+  code = c.code;
+}
+
+-- arc a has another residual
+abbrev pub with_residual_at : Columns → ℕ → ℕ → Columns
+with_residual_at c a x = record {
+  earning = c.earning;
+  cost = c.cost;
+  needed = c.needed;
+  count = c.count;
+  space = c.space;
+  arcs = c.arcs;
+  first = c.first;
+  head = c.head;
+  residual = at c.residual a x;
+  code = c.code;
+}
+
+-- x is moved from the residual of arc a to that of arc b
+abbrev pub with_moved : Columns → ℕ → ℕ → ℕ → Columns
+with_moved c a b x = with_residual_at (with_residual_at c a (c.residual a - x)) b (c.residual b + x)

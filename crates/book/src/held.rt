@@ -1,6 +1,6 @@
 // What an open book and a sealed one hold alike: a borrowed table, with entries from its front and the arcs of needs from its end.
-ghost use Rattle.std.specs.Prelude.{◌≡◌, ◌+◌, ◌*◌, ◌≤◌, length};
-ghost use Rattle.book.specs.Tables.{columns, SmallAmounts, HeadsThere};
+ghost use Rattle.std.specs.Prelude.{◌≡◌, ◌+◌, ◌*◌, ◌<◌, ◌≤◌, length};
+ghost use Rattle.book.specs.Tables.{columns, back, SmallAmounts, HeadsThere};
 
 use super::record::Record;
 
@@ -22,5 +22,13 @@ impl<'a> Held<'a> {
         ensures { result.now ≡ self.entry.table.now }
     {
         self.table
+    }
+
+    // The record of an arc, which is number `arc` from the table's end.
+    pub(crate) fn arc(&self, arc: usize) -> Record
+        requires { arc < 2 * self.now.needs }
+        ensures { result ≡ back self.now.table.now arc }
+    {
+        self.table[self.table.len() - 1 - arc]
     }
 }

@@ -1,6 +1,7 @@
 // The order book: open while entries and needs come in, then sealed, over one borrowed table.
 #![tactic(auto)]
 
+mod answering;
 mod entering;
 mod held;
 mod open;

@@ -1,7 +1,9 @@
 // One record of a book's table, and how it is changed.
-ghost use Rattle.std.specs.Prelude.{◌≡◌, ◌<◌, ◌≤◌, take};
-ghost use Rattle.book.specs.Records.{as_entry, as_arc, needing, with_arc_more};
+ghost use Rattle.std.specs.Prelude.{◌≡◌, ◌-◌, ◌<◌, ◌≤◌, cond, take, Some, None, nat_le};
+ghost use Rattle.book.specs.Records.{as_entry, as_arc, needing, with_arc_more, amount_of, with_amount};
 ghost use Rattle.book.specs.Refusals.{among};
+
+use network::Terminal;
 
 // A record serves an entry or an arc of a need, and its other fields then mean nothing. No enum: once sealed, each record also holds a
 // place of the index.
@@ -83,5 +85,32 @@ impl Record {
         ensures { result ≡ among needed (take self.needs self.needed) }
     {
         self.needed[..usize::from(self.needs)].contains(&needed)
+    }
+
+    // What the entry has at a terminal.
+    pub(crate) fn amount(self, terminal: Terminal) -> u64
+        ensures { result ≡ amount_of self terminal }
+    {
+        match terminal {
+            Terminal::Source => u64::from(self.earning),
+            Terminal::Sink => u64::from(self.cost),
+        }
+    }
+
+    // The entry with so much less at a terminal; none where it has not so much.
+    pub(crate) fn taken(self, terminal: Terminal, amount: u64) -> Option<Record>
+        ensures { result ≡ cond (nat_le amount (amount_of self terminal)) (Some (with_amount self terminal (amount_of self terminal - amount))) None }
+    {
+        let amount = u32::try_from(amount).ok()?;
+        match terminal {
+            Terminal::Source => Some(Record {
+                earning: self.earning.checked_sub(amount)?,
+                ..self
+            }),
+            Terminal::Sink => Some(Record {
+                cost: self.cost.checked_sub(amount)?,
+                ..self
+            }),
+        }
     }
 }

@@ -1,0 +1,102 @@
+// What a sealed book answers as a network, and how it is released.
+ghost use Rattle.std.specs.Prelude.{◌≡◌, ◌<◌, Ok};
+ghost use Rattle.network.specs.Answers.{at_arc, at_node};
+ghost use Rattle.book.specs.Books as books;
+ghost use Rattle.book.specs.Tables.{front};
+ghost use Rattle.book.specs.Values.{sealed_table, sealed_value, sealed_lawful, SealedKeeps, sealed_keeping};
+
+use super::record::Record;
+use super::sealed::SealedBook;
+use network::{Network, NetworkRefusal, Terminal};
+
+// The code of an arc's reverse.
+pub(crate) fn mate(arc: usize) -> usize
+    requires { arc < 32768 }
+    ensures { result ≡ books.mate arc }
+{
+    if arc % 2 == 0 { arc + 1 } else { arc - 1 }
+}
+
+impl<'a> SealedBook<'a> {
+    // The record of an entry.
+    fn entry(&self, node: usize) -> Result<Record, NetworkRefusal>
+        ensures { result ≡ at_node (sealed_value self.now) node (front (sealed_table self.now) node) }
+    {
+        let entries = &self.held.table[..self.held.entries];
+        entries.get(node).copied().ok_or(NetworkRefusal::NoNode)
+    }
+
+    // The code of an arc's reverse, where the arc is there.
+    fn reverse(&self, arc: usize) -> Result<usize, NetworkRefusal>
+        ensures { result ≡ at_arc (λ e. Ok e.reverse) ((sealed_value self.now).graph.ends arc) }
+    {
+        if arc >= 2 * self.held.needs {
+            return Err(NetworkRefusal::NoArc);
+        }
+        Ok(mate(arc))
+    }
+
+    // Ends the book and gives its table back.
+    pub fn release(self) -> &'a mut [Record]
+        ensures { result.now ≡ sealed_table self.entry }
+    {
+        self.held.release()
+    }
+}
+
+impl<'a> Network for SealedBook<'a> {
+    ghost value = { sealed_value };
+
+    ghost lawful = { sealed_lawful };
+
+    ghost keeps = { SealedKeeps };
+
+    ghost keeping = { sealed_keeping };
+
+    fn node_count(&self) -> usize {
+        self.held.entries
+    }
+
+    fn terminal_residual(&self, terminal: Terminal, node: usize) -> Result<u64, NetworkRefusal> {
+        let entry = self.entry(node)?;
+        Ok(entry.amount(terminal))
+    }
+
+    fn arc_at(&self, node: usize, place: usize) -> Result<Option<usize>, NetworkRefusal> {
+        let entry = self.entry(node)?;
+        if place >= usize::from(entry.arcs) {
+            return Ok(None);
+        }
+        let placed = self.held.arc(usize::from(entry.first) + place);
+        Ok(Some(usize::from(placed.code)))
+    }
+
+    fn arc_ends(&self, arc: usize) -> Result<(usize, usize, usize), NetworkRefusal> {
+        let reverse = self.reverse(arc)?;
+        let tail = self.held.arc(reverse).head;
+        let head = self.held.arc(arc).head;
+        Ok((usize::from(tail), usize::from(head), reverse))
+    }
+
+    fn arc_residual(&self, arc: usize) -> Result<u64, NetworkRefusal> {
+        self.reverse(arc)?;
+        Ok(self.held.arc(arc).residual)
+    }
+
+    fn take(&mut self, terminal: Terminal, node: usize, amount: u64) -> Result<(), NetworkRefusal> {
+        let taken = self.entry(node)?.taken(terminal, amount);
+        let held = &mut self.held;
+        held.table[node] = taken.ok_or(NetworkRefusal::AboveResidual)?;
+        Ok(())
+    }
+
+    fn shift(&mut self, arc: usize, amount: u64) -> Result<(), NetworkRefusal> {
+        let reverse = self.reverse(arc)?;
+        let held = &mut self.held;
+        let last = held.table.len() - 1;
+        let left = held.table[last - arc].residual.checked_sub(amount);
+        held.table[last - arc].residual = left.ok_or(NetworkRefusal::AboveResidual)?;
+        held.table[last - reverse].residual += amount;
+        Ok(())
+    }
+}
