@@ -1,5 +1,5 @@
 -- What an open book and a sealed one are, that a sealed book keeps the laws of a network, and what else it keeps. Assumes nothing.
-use Rattle.std.specs.Prelude.{◌≡◌, ◌+◌, ◌*◌, List, refl}
+use Rattle.std.specs.Prelude.{◌≡◌, List, refl}
 use Rattle.std.proofs.Common.{◌∙◌, arith}
 use Rattle.network.specs.Keeping.{Keeping}
 use Rattle.network.specs.Nets.{Net, Lawful}
