@@ -5,3 +5,7 @@ pub mod Plans
 pub mod Keeping
 pub mod Enterings
 pub mod Settled
+pub mod Ends
+pub mod Spans
+pub mod Filling
+pub mod Indexing

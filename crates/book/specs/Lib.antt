@@ -6,5 +6,6 @@ pub mod Tables
 pub mod Writes
 pub mod Calls
 pub mod Plans
+pub mod Indexes
 pub mod Laws
 pub mod Values
