@@ -9,3 +9,4 @@ pub mod Ends
 pub mod Spans
 pub mod Filling
 pub mod Indexing
+pub mod Sealings
