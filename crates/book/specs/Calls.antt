@@ -4,7 +4,7 @@ use Rattle.book.specs.declared.record.Record.{Record}
 use Rattle.book.specs.declared.refusal.EnterRefusal.{EnterRefusal}
 use Rattle.book.specs.declared.refusal.NeedRefusal.{NeedRefusal}
 use Rattle.network.specs.Nets.{Net, Lawful}
-use Rattle.book.specs.Books.{Book, with_entry, with_need, needs_of, network_of}
+use Rattle.book.specs.Books.{Book, empty, with_entry, with_need, needs_of, network_of}
 use Rattle.book.specs.Tables.{front}
 use Rattle.book.specs.Refusals.{enter_refusal, need_refusal}
 
@@ -12,6 +12,10 @@ use Rattle.book.specs.Refusals.{enter_refusal, need_refusal}
 pub record Open : Type 0 where
   pub table : List Record
   pub book : Book
+
+-- a new book over a table
+abbrev pub new_book : List Record → Open
+new_book table = record { table = table; book = empty }
 
 -- a sealed book as it stands: its table, and what it is as a network
 pub record Shut : Type 0 where
