@@ -2,7 +2,7 @@
 ghost use Rattle.std.specs.Prelude.{◌≡◌, Ok};
 ghost use Rattle.network.specs.Answers.{at_arc, at_node};
 ghost use Rattle.book.specs.Tables.{front};
-ghost use Rattle.book.specs.Values.{sealed_table, sealed_value, sealed_lawful, SealedKeeps, sealed_keeping};
+ghost use Rattle.book.specs.Values.{sealed_of, sealed_table, sealed_value, sealed_lawful, SealedKeeps, sealed_keeping};
 
 use super::held::mate;
 use super::record::Record;
