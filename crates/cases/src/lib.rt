@@ -1,8 +1,14 @@
-// Examples that are run: sheets with their answers, listings with their text, rows as networks, and runs over rows.
+// Examples that are run: sheets with their answers, listings with their text, rows as networks, order books, loads, and runs.
 #![tactic(auto)]
 
 #[cfg(test)]
+mod books;
+#[cfg(test)]
+mod lent;
+#[cfg(test)]
 mod listings;
+#[cfg(test)]
+mod loads;
 #[cfg(test)]
 mod rows;
 #[cfg(test)]

@@ -25,7 +25,7 @@ const THREE: [Cell; 3] = [
     },
 ];
 
-fn refused<T: Drop>(
+pub(crate) fn refused<T: Drop>(
     rt: &impl Abort,
     answer: Result<T, NetworkRefusal>,
     question: u8,

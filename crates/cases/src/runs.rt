@@ -1,30 +1,11 @@
 // Runs over rows of cells: what they answer, and what they leave of all that they are lent.
+use super::lent::{OLD, OLD_MARK, begins_with, kept_from, marked, old_record};
 use network::{Network, Terminal};
 use row::{Cell, Row};
 use search::{Outcome, Report, RunRefusal};
 use std::process::Abort;
 use std::test::Fail;
-use trees::{Lanes, Work};
-
-// What stands in all that a run is lent; no run here writes it.
-const OLD: u64 = 99;
-
-const OLD_PLACE: usize = 99;
-
-const OLD_MARK: u8 = 9;
-
-// A record that no run has written.
-fn old_record() -> Work {
-    Work {
-        slots: Lanes {
-            waiting: OLD_PLACE,
-            orphans: OLD_PLACE,
-        },
-        stage: OLD,
-        distance: OLD_PLACE,
-        ..Work::blank()
-    }
-}
+use trees::Work;
 
 fn cell(source: u64, sink: u64, right: u64, left: u64) -> Cell {
     Cell {
@@ -43,42 +24,6 @@ fn run_over(
 ) -> Result<Report, RunRefusal> {
     let mut row = Row::new(cells);
     search::run(&mut row, work, trail, marks)
-}
-
-// From these places on, all is as it was lent.
-fn kept_from(
-    rt: &impl Abort,
-    work: &[Work],
-    trail: &[u64],
-    marks: &[u8],
-    record: usize,
-    word: usize,
-    byte: usize,
-) {
-    for i in record..work.len() {
-        assert_eq!(rt; work[i].stage, OLD);
-        assert_eq!(rt; work[i].distance, OLD_PLACE);
-        assert_eq!(rt; work[i].slots.waiting, OLD_PLACE);
-        assert_eq!(rt; work[i].slots.orphans, OLD_PLACE);
-    }
-    for i in word..trail.len() {
-        assert_eq!(rt; trail[i], OLD);
-    }
-    for i in byte..marks.len() {
-        assert_eq!(rt; marks[i], OLD_MARK);
-    }
-}
-
-fn begins_with(rt: &impl Abort, words: &[u64], start: &[u64]) {
-    for i in 0..start.len() {
-        assert_eq!(rt; words.get(i).copied(), Some(start[i]));
-    }
-}
-
-fn marked(rt: &impl Abort, bytes: &[u8], marks: &[u8]) {
-    for i in 0..marks.len() {
-        assert_eq!(rt; bytes.get(i).copied(), Some(marks[i]));
-    }
 }
 
 fn same_cells<const N: usize>(rt: &impl Abort, cells: &[Cell; N], others: &[Cell; N]) {
