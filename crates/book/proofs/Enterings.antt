@@ -1,12 +1,12 @@
 -- Entering an entry: what passes the questions, and what the table holds then.
-use Rattle.std.proofs.Common.{◌≡◌, ℕ, ◌+◌, ◌-◌, ◌*◌, ◌<◌, ◌≤◌, List, map, length, get_or, set, None, Ok, sym, refl, ap, ◌∙◌, subst, arith, length-set}
+use Rattle.std.proofs.Common.{◌≡◌, ℕ, ◌+◌, ◌-◌, ◌*◌, ◌<◌, ◌≤◌, List, map, length, get_or, set, None, Ok, sym, refl, ap, ◌∙◌, subst, ⊎_elim, arith, length-set}
 use Rattle.std.specs.List.{range_with_len}
-use Rattle.std.proofs.lemmas.List.{get_or_default}
+use Rattle.std.proofs.lemmas.List.{get_or_default, nil_from_length}
 use Rattle.std.proofs.lemmas.List.FromFn.{length-map-range_with_len, map-range_with_len_more}
-use Rattle.std.proofs.lemmas.Bool.{eq-eqb, ne_eqb}
+use Rattle.std.proofs.lemmas.Bool.{cases_lt, eq-eqb, ne_eqb}
 use Rattle.book.specs.declared.open.OpenBook.{OpenBook}
 use Rattle.book.specs.declared.record.Record.{Record}
-use Rattle.book.specs.Books.{no_amounts, with_entry}
+use Rattle.book.specs.Books.{empty, no_amounts, with_entry}
 use Rattle.book.specs.Records.{as_entry}
 use Rattle.book.specs.Tables.{Columns, columns, no_record, front, amounts_in, need_in, book_in}
 use Rattle.book.specs.Writes.{with_entry_at}
@@ -43,6 +43,16 @@ need_count table n m = length-map-range_with_len (need_in (columns table)) 0 m
 
 pub unused_count : (table : List Record) (n m : ℕ) → unused (standing table n m) ≡ length table - n - 2 * m
 unused_count table n m = omega (arith, entry_count table n m, need_count table n m)
+
+-- a book without entries has no needs: each would lead to an entry
+pub no_entries : (b : OpenBook) → length (open_of b).book.entries ≡ 0 → (open_of b).book ≡ empty
+no_entries b none =
+    let table = b.held.table.now in
+    let n = b.held.entries in
+    let m = b.held.needs in
+    let entries : n ≡ 0 = omega (arith, none, entry_count table n m) in
+    let needs : m ≡ 0 = ⊎_elim (λ (some : 0 < m). absurd (omega (arith, b.held.heads 0 (omega arith)))) (λ (few : m ≤ 0). omega arith) (cases_lt 0 m) in
+    λ i. record { entries = nil_from_length _ none i; needs = nil_from_length _ (need_count table n m ∙ needs) i }
 
 -- the table with one entry more
 abbrev pub entry_written : List Record → ℕ → ℕ → ℕ → List Record

@@ -6,3 +6,8 @@ pub mod Keeping
 pub mod Enterings
 pub mod Needings
 pub mod Settled
+pub mod Ends
+pub mod Spans
+pub mod Filling
+pub mod Indexing
+pub mod Sealings

@@ -1,14 +1,16 @@
 -- What a sealed book answers, and what holds of it after a take and after a shift.
-use Rattle.std.proofs.Common.{◌≡◌, ℕ, ◌+◌, ◌-◌, ◌*◌, ◌/◌, ◌%◌, ◌<◌, ◌≤◌, List, length, set, Some, None, sym, refl, ap, ◌∙◌, subst, ⊎_elim, arith}
+use Rattle.std.proofs.Common.{◌≡◌, ℕ, ◌+◌, ◌-◌, ◌*◌, ◌/◌, ◌%◌, ◌<◌, ◌≤◌, cond, leb, List, length, set, Some, None, Ok, Option, sym, refl, ap, ◌∙◌, subst, ⊎_elim, arith}
 use Rattle.std.specs.List.{slice_get}
 use Rattle.std.proofs.lemmas.Bool.{cases_eq, eq-eqb, ne_eqb, lt-ltb, le-leb}
 use Rattle.std.proofs.lemmas.Bool.Decides.{nat_tests}
 use Rattle.std.proofs.lemmas.List.FromFn.{length-map-range_with_len, get_or-map-range_with_len}
 use Rattle.std.proofs.lemmas.Option.{slice_get-get_or, slice_get_past}
+use Rattle.std.specs.Option.{ok_or}
+use Rattle.network.specs.declared.refusal.NetworkRefusal.TheVariants.{AboveResidual}
 use Rattle.network.specs.declared.terminal.Terminal.{Terminal}
 use Rattle.network.specs.declared.terminal.Terminal.TheVariants.{Source, Sink}
 use Rattle.network.specs.Nets.{Net, with_terminal, taken, shifted}
-use Rattle.network.specs.Answers.{done, take_answer, after_take, shift_answer, after_shift}
+use Rattle.network.specs.Answers.{at_node, at_arc, done, take_answer, after_take, shift_answer, after_shift}
 use Rattle.book.specs.declared.record.Record.{Record}
 use Rattle.book.specs.declared.sealed.SealedBook.{SealedBook}
 use Rattle.book.specs.Books.{amount, mate, binding}
@@ -112,37 +114,45 @@ amount_there c Source u = refl
 amount_there c Sink u = refl
 
 -- r is the entry u, with x less
-pub after_taken : (b : SealedBook) (t : Terminal) (u x : ℕ) {r : Record} → u < b.held.entries → x ≤ amount_of (front (sealed_table b) u) t → r ≡ with_amount (front (sealed_table b) u) t (amount_of (front (sealed_table b) u) t - x) → After b (after_take (sealed_value b) t u x) (set (sealed_table b) u r)
-after_taken b t u x {r} there less made =
+pub after_taken : (b : SealedBook) (t : Terminal) (u x : ℕ) {entry r : Record} {less : Option Record} → Ok entry ≡ at_node (sealed_value b) u (front (sealed_table b) u) → less ≡ cond (leb x (amount_of entry t)) (Some (with_amount entry t (amount_of entry t - x))) None → Ok r ≡ ok_or less AboveResidual → After b (after_take (sealed_value b) t u x) (set (sealed_table b) u r)
+after_taken b t u x {entry} {r} {less} node taking is =
     let table = sealed_table b in
-    let left = amount_of (front table u) t - x in
     let n = b.held.entries in
     let m = b.held.needs in
-    let long = b.held.room in
-    let has = amount_there table t u in
-    let columns_are : columns (set table u r) ≡ with_amount_at (columns table) t u left = ap (λ (r : Record). columns (set table u r)) made ∙ columns_amount table t u left (omega arith) in
-    let accepted : take_answer (sealed_value b) t u x ≡ done = rw (lt-ltb u n there, has, le-leb x (amount_of (front table u) t) less) in
-    let value : taken (sealed_value b) t u x ≡ with_terminal (sealed_value b) t u left = rw (lt-ltb u n there, has) in
-    after_columns b _ _ _ columns_are (settled_amount (columns table) n m t u left (settled b) (omega arith)) (value_amount (columns table) n m t u left there ∙ sym value ∙ rw accepted)
+    let has = amount_of (front table u) t in
+    let there : u < n = grind (arith, nat_tests) in
+    let within : x ≤ has = grind (arith, nat_tests) in
+    let made : r ≡ with_amount (front table u) t (has - x) = grind (arith, nat_tests) in
+    let same = amount_there table t u in
+    let columns_are : columns (set table u r) ≡ with_amount_at (columns table) t u (has - x) = ap (λ (r : Record). columns (set table u r)) made ∙ columns_amount table t u (has - x) (omega (arith, b.held.room)) in
+    let accepted : take_answer (sealed_value b) t u x ≡ done = rw (lt-ltb u n there, same, le-leb x has within) in
+    let value : taken (sealed_value b) t u x ≡ with_terminal (sealed_value b) t u (has - x) = rw (lt-ltb u n there, same) in
+    after_columns b _ _ _ columns_are (settled_amount (columns table) n m t u (has - x) (settled b) (omega arith)) (value_amount (columns table) n m t u (has - x) there ∙ sym value ∙ rw accepted)
+
+-- an arc that is there, and its reverse
+reversed_arc : (b : SealedBook) (a : ℕ) {k : ℕ} → Ok k ≡ at_arc (λ e. Ok e.reverse) ((sealed_value b).graph.ends a) → (a < 2 * b.held.needs) × (k ≡ mate a)
+reversed_arc b a is = grind (arith, nat_tests)
 
 -- x is moved from the residual of arc a to that of its reverse
-pub after_shifted : (b : SealedBook) (a x : ℕ) {k left : ℕ} → a < 2 * b.held.needs → x ≤ (back (sealed_table b) a).residual → k ≡ mate a → left ≡ (back (sealed_table b) a).residual - x → After b (after_shift (sealed_value b) a x) (moved_at (sealed_table b) a k left x)
-after_shifted b a x {k} {left} there less reverse made =
+pub after_shifted : (b : SealedBook) (a x : ℕ) {k left : ℕ} → Ok k ≡ at_arc (λ e. Ok e.reverse) ((sealed_value b).graph.ends a) → x ≤ (back (sealed_table b) a).residual → left ≡ (back (sealed_table b) a).residual - x → After b (after_shift (sealed_value b) a x) (moved_at (sealed_table b) a k left x)
+after_shifted b a x {k} {left} arc less made =
     let table = sealed_table b in
     let n = b.held.entries in
     let m = b.held.needs in
-    let long = b.held.room in
+    let reverse = reversed_arc b a arc in
+    let there : a < 2 * m = reverse.0 in
     let below = mate_below a m there in
-    let columns_are : columns (moved_at table a k left x) ≡ with_moved (columns table) a (mate a) x = ap (λ k. columns (moved_at table a k left x)) reverse ∙ ap (λ y. columns (moved_at table a (mate a) y x)) made ∙ columns_moved table a (mate a) x (omega arith) (omega arith) (mate_other a) in
+    let columns_are : columns (moved_at table a k left x) ≡ with_moved (columns table) a (mate a) x = ap (λ k. columns (moved_at table a k left x)) reverse.1 ∙ ap (λ y. columns (moved_at table a (mate a) y x)) made ∙ columns_moved table a (mate a) x (omega (arith, b.held.room)) (omega (arith, b.held.room)) (mate_other a) in
     let accepted : shift_answer (sealed_value b) a x ≡ done = rw (lt-ltb a (2 * m) there, le-leb x (back table a).residual less) in
     after_columns b _ _ _ columns_are (settled_moved (columns table) n m a x (settled b) there less) (value_moved (columns table) n m a x there ∙ rw accepted)
 
 -- what is raised is at most what can be sent along a need
-pub raise_small : (b : SealedBook) (a x left : ℕ) {k : ℕ} → a < 2 * b.held.needs → x ≤ (back (sealed_table b) a).residual → k ≡ mate a → (front (set (sealed_table b) (length (sealed_table b) - 1 - a) (with_residual (front (sealed_table b) (length (sealed_table b) - 1 - a)) left)) (length (sealed_table b) - 1 - k)).residual + x ≤ binding
-raise_small b a x left {k} there less reverse =
+pub raise_small : (b : SealedBook) (a x left : ℕ) {k : ℕ} → Ok k ≡ at_arc (λ e. Ok e.reverse) ((sealed_value b).graph.ends a) → x ≤ (back (sealed_table b) a).residual → (front (set (sealed_table b) (length (sealed_table b) - 1 - a) (with_residual (front (sealed_table b) (length (sealed_table b) - 1 - a)) left)) (length (sealed_table b) - 1 - k)).residual + x ≤ binding
+raise_small b a x left {k} arc less =
     let table = sealed_table b in
     let long = b.held.room in
-    let below = mate_below a b.held.needs there in
-    let was = ap (λ (r : Record). r.residual) (before_raised table a (mate a) (with_residual (front table (length table - 1 - a)) left) (omega arith) (omega arith) (mate_other a)) in
-    let pair = pair_small (columns table) b.held.needs a b.pairs there in
-    rw reverse (omega arith)
+    let reverse = reversed_arc b a arc in
+    let below = mate_below a b.held.needs reverse.0 in
+    let was = ap (λ (r : Record). r.residual) (before_raised table a (mate a) (with_residual (front table (length table - 1 - a)) left) (omega (arith, reverse)) (omega arith) (mate_other a)) in
+    let pair = pair_small (columns table) b.held.needs a b.pairs reverse.0 in
+    rw reverse.1 (omega arith)

@@ -7,11 +7,11 @@ use Rattle.network.specs.declared.terminal.Terminal.{Terminal}
 use Rattle.network.specs.declared.terminal.Terminal.TheVariants.{Source, Sink}
 use Rattle.network.specs.Nets.{at}
 use Rattle.book.specs.declared.record.Record.{Record}
-use Rattle.book.specs.Records.{as_entry, as_arc, needing, with_arc_more, with_amount, with_residual}
+use Rattle.book.specs.Records.{as_entry, as_arc, needing, with_arc_more, with_amount, with_residual, with_first, with_code}
 use Rattle.book.specs.Tables.{Columns, no_record, front, back, columns}
-use Rattle.book.specs.Writes.{with_entry_at, with_arc, with_needed, with_arcs, with_amount_at, with_residual_at, with_moved}
+use Rattle.book.specs.Writes.{with_entry_at, with_arc, with_needed, with_arcs, with_amount_at, with_residual_at, with_moved, with_index}
 
-front_set : (table : List Record) (i : ℕ) (r : Record) (k : ℕ) → i < length table → front (set table i r) k ≡ at (front table) i r k
+pub front_set : (table : List Record) (i : ℕ) (r : Record) (k : ℕ) → i < length table → front (set table i r) k ≡ at (front table) i r k
 front_set table i r k h = grind (arith, nat_tests, get_or-set_same, get_or-set_other)
 
 back_set : (table : List Record) (a : ℕ) (r : Record) (k : ℕ) → a < length table → back (set table (length table - 1 - a) r) k ≡ at (back table) a r k
@@ -158,6 +158,40 @@ columns_residual table a x there =
       head = λ k. back_same (λ (r : Record). r.head) table j r k inside refl i;
       residual = λ k. back_read (λ (r : Record). r.residual) table a r k there i;
       code = λ k. back_same (λ (r : Record). r.code) table j r k inside refl i;
+    }
+
+pub columns_first : (table : List Record) (u x : ℕ) → u < length table → columns (set table u (with_first (front table u) x)) ≡ with_index (columns table) (at (columns table).first u x) (columns table).code
+columns_first table u x h =
+    let r = with_first (front table u) x in
+    λ i. record {
+      earning = λ k. front_same (λ (r : Record). r.earning) table u r k h refl i;
+      cost = λ k. front_same (λ (r : Record). r.cost) table u r k h refl i;
+      needed = λ k. front_same (λ (r : Record). take r.needs r.needed) table u r k h refl i;
+      count = λ k. front_same (λ (r : Record). r.needs) table u r k h refl i;
+      space = λ k. front_same (λ (r : Record). length r.needed) table u r k h refl i;
+      arcs = λ k. front_same (λ (r : Record). r.arcs) table u r k h refl i;
+      first = λ k. front_read (λ (r : Record). r.first) table u r k h i;
+      head = λ k. back_same (λ (r : Record). r.head) table u r k h refl i;
+      residual = λ k. back_same (λ (r : Record). r.residual) table u r k h refl i;
+      code = λ k. back_same (λ (r : Record). r.code) table u r k h refl i;
+    }
+
+pub columns_code : (table : List Record) (p x : ℕ) → p < length table → columns (set table (length table - 1 - p) (with_code (front table (length table - 1 - p)) x)) ≡ with_index (columns table) (columns table).first (at (columns table).code p x)
+columns_code table p x there =
+    let j = length table - 1 - p in
+    let r = with_code (front table j) x in
+    let inside : j < length table = omega arith in
+    λ i. record {
+      earning = λ k. front_same (λ (r : Record). r.earning) table j r k inside refl i;
+      cost = λ k. front_same (λ (r : Record). r.cost) table j r k inside refl i;
+      needed = λ k. front_same (λ (r : Record). take r.needs r.needed) table j r k inside refl i;
+      count = λ k. front_same (λ (r : Record). r.needs) table j r k inside refl i;
+      space = λ k. front_same (λ (r : Record). length r.needed) table j r k inside refl i;
+      arcs = λ k. front_same (λ (r : Record). r.arcs) table j r k inside refl i;
+      first = λ k. front_same (λ (r : Record). r.first) table j r k inside refl i;
+      head = λ k. back_same (λ (r : Record). r.head) table j r k inside refl i;
+      residual = λ k. back_same (λ (r : Record). r.residual) table j r k inside refl i;
+      code = λ k. back_read (λ (r : Record). r.code) table p r k there i;
     }
 
 -- x is raised at arc b, after arc a has got another residual

@@ -1,9 +1,10 @@
--- What the calls on an open book answer, and what they leave of its table.
+-- What the calls on an open book answer, and what they leave of its table and of the book.
 use Rattle.std.specs.Prelude.{◌≡◌, ℕ, ◌+◌, ◌-◌, ◌*◌, ◌<◌, ◌≤◌, List, length, Some, None, Ok, Err, Option, Result}
 use Rattle.book.specs.declared.record.Record.{Record}
 use Rattle.book.specs.declared.refusal.EnterRefusal.{EnterRefusal}
 use Rattle.book.specs.declared.refusal.NeedRefusal.{NeedRefusal}
-use Rattle.book.specs.Books.{Book, with_entry, with_need, needs_of}
+use Rattle.network.specs.Nets.{Net, Lawful}
+use Rattle.book.specs.Books.{Book, empty, with_entry, with_need, needs_of, network_of}
 use Rattle.book.specs.Tables.{front}
 use Rattle.book.specs.Refusals.{enter_refusal, need_refusal}
 
@@ -11,6 +12,15 @@ use Rattle.book.specs.Refusals.{enter_refusal, need_refusal}
 pub record Open : Type 0 where
   pub table : List Record
   pub book : Book
+
+-- a new book over a table
+abbrev pub new_book : List Record → Open
+new_book table = record { table = table; book = empty }
+
+-- a sealed book as it stands: its table, and what it is as a network
+pub record Shut : Type 0 where
+  pub table : List Record
+  pub net : Net
 
 -- an entry uses one record, and a need two
 abbrev pub used : Book → ℕ
@@ -46,3 +56,9 @@ need_refused s u w = need_refusal u w (needs_of u s.book.needs) (length s.book.e
 abbrev pub Needed : Open → ℕ → ℕ → Result (Unit {0}) NeedRefusal → Open → Type 0
 Needed s u w (Err e) t = (need_refused s u w ≡ Some e) × (t ≡ s)
 Needed s u w (Ok _) t = (need_refused s u w ≡ None) × (t.book ≡ with_need s.book u w) × Spared t.book s.table t.table
+
+-- the book is sealed: what stands is the network of the book, which keeps the laws
+pub record Sealed (s : Open) (t : Shut) : Type 0 where
+  pub network : t.net ≡ network_of s.book
+  pub lawful : Lawful (network_of s.book)
+  pub spared : Spared s.book s.table t.table

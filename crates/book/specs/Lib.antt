@@ -7,5 +7,6 @@ pub mod Writes
 pub mod Needings
 pub mod Calls
 pub mod Plans
+pub mod Indexes
 pub mod Laws
 pub mod Values

@@ -33,3 +33,11 @@ with_amount r Sink x = record { earning = r.earning; cost = x; needed = r.needed
 -- an arc of another residual
 abbrev pub with_residual : Record → ℕ → Record
 with_residual r x = record { earning = r.earning; cost = r.cost; needed = r.needed; needs = r.needs; arcs = r.arcs; first = r.first; head = r.head; residual = x; code = r.code }
+
+-- an entry whose arcs begin at another place of the index
+abbrev pub with_first : Record → ℕ → Record
+with_first r k = record { earning = r.earning; cost = r.cost; needed = r.needed; needs = r.needs; arcs = r.arcs; first = k; head = r.head; residual = r.residual; code = r.code }
+
+-- a place of the index with another code
+abbrev pub with_code : Record → ℕ → Record
+with_code r a = record { earning = r.earning; cost = r.cost; needed = r.needed; needs = r.needs; arcs = r.arcs; first = r.first; head = r.head; residual = r.residual; code = a }

@@ -6,7 +6,7 @@ use Rattle.network.specs.Nets.{Net, Lawful}
 use Rattle.book.specs.declared.open.OpenBook.{OpenBook}
 use Rattle.book.specs.declared.record.Record.{Record}
 use Rattle.book.specs.declared.sealed.SealedBook.{SealedBook}
-use Rattle.book.specs.Calls.{Open, Untouched}
+use Rattle.book.specs.Calls.{Open, Shut, Untouched}
 use Rattle.book.specs.Tables.{columns, book_in, network_in}
 use Rattle.book.specs.Laws.{lawful}
 
@@ -22,6 +22,9 @@ sealed_value b = network_in (columns (sealed_table b)) b.held.entries b.held.nee
 
 pub sealed_lawful : (b : SealedBook) → Lawful (sealed_value b)
 sealed_lawful b = lawful (columns (sealed_table b)) b.held.entries b.held.needs b.held.few b.bound b.held.amounts b.held.heads b.pairs
+
+abbrev pub sealed_of : SealedBook → Shut
+sealed_of b = record { table = sealed_table b; net = sealed_value b }
 
 -- y is over the same table as x, with as many entries and needs, and the records that these do not use are as they were
 pub record SealedKeeps (x y : SealedBook) : Type 0 where

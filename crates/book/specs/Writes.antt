@@ -110,3 +110,18 @@ with_residual_at c a x = record {
 -- x is moved from the residual of arc a to that of arc b
 abbrev pub with_moved : Columns → ℕ → ℕ → ℕ → Columns
 with_moved c a b x = with_residual_at (with_residual_at c a (c.residual a - x)) b (c.residual b + x)
+
+-- another index: where each entry's arcs begin, and the code at each place
+abbrev pub with_index : Columns → (ℕ → ℕ) → (ℕ → ℕ) → Columns
+with_index c first code = record {
+  earning = c.earning;
+  cost = c.cost;
+  needed = c.needed;
+  count = c.count;
+  space = c.space;
+  arcs = c.arcs;
+  first = first;
+  head = c.head;
+  residual = c.residual;
+  code = code;
+}

@@ -1,21 +1,13 @@
 // What a sealed book answers as a network, and how it is released.
-ghost use Rattle.std.specs.Prelude.{◌≡◌, ◌<◌, Ok};
+ghost use Rattle.std.specs.Prelude.{◌≡◌, Ok};
 ghost use Rattle.network.specs.Answers.{at_arc, at_node};
-ghost use Rattle.book.specs.Books as books;
 ghost use Rattle.book.specs.Tables.{front};
-ghost use Rattle.book.specs.Values.{sealed_table, sealed_value, sealed_lawful, SealedKeeps, sealed_keeping};
+ghost use Rattle.book.specs.Values.{sealed_of, sealed_table, sealed_value, sealed_lawful, SealedKeeps, sealed_keeping};
 
+use super::held::mate;
 use super::record::Record;
 use super::sealed::SealedBook;
 use network::{Network, NetworkRefusal, Terminal};
-
-// The code of an arc's reverse.
-pub(crate) fn mate(arc: usize) -> usize
-    requires { arc < 32768 }
-    ensures { result ≡ books.mate arc }
-{
-    if arc % 2 == 0 { arc + 1 } else { arc - 1 }
-}
 
 impl<'a> SealedBook<'a> {
     // The record of an entry.
@@ -38,7 +30,7 @@ impl<'a> SealedBook<'a> {
 
     // Ends the book and gives its table back.
     pub fn release(self) -> &'a mut [Record]
-        ensures { result.now ≡ sealed_table self.entry }
+        ensures { result.now ≡ (sealed_of self.entry).table }
     {
         self.held.release()
     }

@@ -1,7 +1,6 @@
 // The calls on an open book.
 ghost use Rattle.std.specs.Prelude.{◌≡◌, ◌+◌, ◌-◌, ◌*◌, ◌<◌, ◌≤◌, ◌≢◌, length, sum_by, take};
-ghost use Rattle.book.specs.Books.{empty};
-ghost use Rattle.book.specs.Calls.{unused, Entered, Needed};
+ghost use Rattle.book.specs.Calls.{new_book, unused, Entered, Needed};
 ghost use Rattle.book.specs.Needings.{need_written};
 ghost use Rattle.book.specs.Plans.{total_earnings};
 ghost use Rattle.book.specs.Tables.{front};
@@ -19,7 +18,7 @@ impl<'a> OpenBook<'a> {
     // A book without entries over the table, which stays as it is.
     #[tactic(auto, unfolding(network::specs::Cuts::sum_below))]
     pub fn new(table: &'a mut [Record]) -> OpenBook<'a>
-        ensures { open_of result ≡ record { table = table.old; book = empty } }
+        ensures { open_of result ≡ new_book table.old }
     {
         OpenBook {
             held: Held {

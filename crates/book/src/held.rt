@@ -1,5 +1,6 @@
 // What an open book and a sealed one hold alike: a borrowed table, with entries from its front and the arcs of needs from its end.
 ghost use Rattle.std.specs.Prelude.{◌≡◌, ◌+◌, ◌*◌, ◌<◌, ◌≤◌, length};
+ghost use Rattle.book.specs.Books.{mate};
 ghost use Rattle.book.specs.Tables.{columns, back, SmallAmounts, HeadsThere};
 
 use super::record::Record;
@@ -31,4 +32,12 @@ impl<'a> Held<'a> {
     {
         self.table[self.table.len() - 1 - arc]
     }
+}
+
+// The code of an arc's reverse.
+pub(crate) fn mate(arc: usize) -> usize
+    requires { arc < 32768 }
+    ensures { result ≡ mate arc }
+{
+    if arc % 2 == 0 { arc + 1 } else { arc - 1 }
 }

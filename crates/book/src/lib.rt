@@ -8,6 +8,7 @@ mod open;
 mod record;
 mod refusal;
 mod sealed;
+mod sealing;
 
 pub use open::OpenBook;
 pub use record::Record;

@@ -1,0 +1,21 @@
+-- The book of a sheet's entries.
+use Rattle.std.specs.Prelude.{ℕ, suc, List, [], ◌∷◌, ◌++◌, map}
+use Rattle.sheet.specs.Format.{Entry}
+use Rattle.sheet.specs.Places.{amount}
+use Rattle.book.specs.Books.{Amounts, Need, Book}
+
+-- an amount that is absent is 0
+abbrev pub amounts_of : Entry → Amounts
+amounts_of e = record { earning = amount e.earning; cost = amount e.cost }
+
+-- what entry u needs
+abbrev pub needs_by : ℕ → List ℕ → List Need
+needs_by u ns = map (λ w. record { entry = u; needed = w }) ns
+
+-- the needs of the entries, entry by entry, where the first has number i
+abbrev pub needs_from : ℕ → List Entry → List Need
+needs_from i [] = []
+needs_from i (e ∷ es) = needs_by i e.needs ++ needs_from (suc i) es
+
+abbrev pub book_of : List Entry → Book
+book_of es = record { entries = map amounts_of es; needs = needs_from 0 es }
