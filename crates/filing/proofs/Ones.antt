@@ -29,7 +29,7 @@ no_list bs x es a sheet = false≢true (ap is_ok (one_answer bs (Err x) (Ok (cou
 
 -- there is room for a sheet's book, or there is not
 never_short : (s t : Open) (bs : List ℕ) (c : Counts) → TooShort s bs → Filed s bs c t → ⊥
-never_short s t bs c h k = omega (arith, k.room, subst (λ es. length s.table < used (book_of es)) (one_list bs h.entries k.entries h.sheet k.sheet) h.short)
+never_short s t bs c h k = omega (arith, k.room, subst (λ es. length s.table.now < used (book_of es)) (one_list bs h.entries k.entries h.sheet k.sheet) h.short)
 
 same_filed : (s t u : Open) (bs : List ℕ) (c d : Counts) → Filed s bs c t → Filed s bs d u → (c ≡ d) × (t.book ≡ u.book)
 same_filed s t u bs c d h k =
