@@ -12,7 +12,7 @@ use Rattle.book.specs.Calls.{Open, used}
 use Rattle.filing.specs.declared.refusal.LoadRefusal.{LoadRefusal}
 use Rattle.filing.specs.declared.refusal.LoadRefusal.TheVariants.{HasEntries, Sheet, ShortTable}
 use Rattle.filing.specs.Books.{book_of}
-use Rattle.filing.specs.Loads.{TooShort, Filed, Loaded}
+use Rattle.filing.specs.Loads.{TooShort, AllLoaded, Loaded}
 
 -- a sheet's answer as a load's
 abbrev passed : Result Counts SheetRefusal → Result Counts LoadRefusal
@@ -28,11 +28,11 @@ no_list : (bs : List ℕ) (x : SheetRefusal) (es : List Entry) → Answers bs (E
 no_list bs x es a sheet = false≢true (ap is_ok (one_answer bs (Err x) (Ok (counts es)) a (es, sheet, refl)))
 
 -- there is room for a sheet's book, or there is not
-never_short : (s t : Open) (bs : List ℕ) (c : Counts) → TooShort s bs → Filed s bs c t → ⊥
+never_short : (s t : Open) (bs : List ℕ) (c : Counts) → TooShort s bs → AllLoaded s bs c t → ⊥
 never_short s t bs c h k = omega (arith, k.room, subst (λ es. length s.table.now < used (book_of es)) (one_list bs h.entries k.entries h.sheet k.sheet) h.short)
 
-same_filed : (s t u : Open) (bs : List ℕ) (c d : Counts) → Filed s bs c t → Filed s bs d u → (c ≡ d) × (t.book ≡ u.book)
-same_filed s t u bs c d h k =
+same_loaded : (s t u : Open) (bs : List ℕ) (c d : Counts) → AllLoaded s bs c t → AllLoaded s bs d u → (c ≡ d) × (t.book ≡ u.book)
+same_loaded s t u bs c d h k =
     let same = one_list bs h.entries k.entries h.sheet k.sheet in
     (h.are ∙ ap counts same ∙ sym k.are, h.book ∙ ap book_of same ∙ sym k.book)
 
@@ -45,12 +45,12 @@ loads_one s bs (Err HasEntries) (Ok d) t u h k = absurd (never_both s h.0 k.0)
 loads_one s bs (Err (Sheet x)) (Err HasEntries) t u h k = absurd (never_both s k.0 h.0)
 loads_one s bs (Err (Sheet x)) (Err (Sheet y)) t u (none, answers, left) (none_too, answers_too, left_too) = (ap passed (one_answer bs (Err x) (Err y) answers answers_too), ap (λ (o : Open). o.book) (left ∙ sym left_too))
 loads_one s bs (Err (Sheet x)) (Err ShortTable) t u (none, answers, left) (none_too, short, left_too) = absurd (no_list bs x short.entries answers short.sheet)
-loads_one s bs (Err (Sheet x)) (Ok d) t u (none, answers, left) (none_too, filed) = absurd (no_list bs x filed.entries answers filed.sheet)
+loads_one s bs (Err (Sheet x)) (Ok d) t u (none, answers, left) (none_too, all_loaded) = absurd (no_list bs x all_loaded.entries answers all_loaded.sheet)
 loads_one s bs (Err ShortTable) (Err HasEntries) t u h k = absurd (never_both s k.0 h.0)
 loads_one s bs (Err ShortTable) (Err (Sheet y)) t u (none, short, left) (none_too, answers, left_too) = absurd (no_list bs y short.entries answers short.sheet)
 loads_one s bs (Err ShortTable) (Err ShortTable) t u (none, short, left) (none_too, short_too, left_too) = (refl, ap (λ (o : Open). o.book) (left ∙ sym left_too))
-loads_one s bs (Err ShortTable) (Ok d) t u (none, short, left) (none_too, filed) = absurd (never_short s u bs d short filed)
+loads_one s bs (Err ShortTable) (Ok d) t u (none, short, left) (none_too, all_loaded) = absurd (never_short s u bs d short all_loaded)
 loads_one s bs (Ok c) (Err HasEntries) t u h k = absurd (never_both s k.0 h.0)
-loads_one s bs (Ok c) (Err (Sheet y)) t u (none, filed) (none_too, answers, left) = absurd (no_list bs y filed.entries answers filed.sheet)
-loads_one s bs (Ok c) (Err ShortTable) t u (none, filed) (none_too, short, left) = absurd (never_short s t bs c short filed)
-loads_one s bs (Ok c) (Ok d) t u (none, filed) (none_too, filed_too) = let same = same_filed s t u bs c d filed filed_too in (ap Ok same.0, same.1)
+loads_one s bs (Ok c) (Err (Sheet y)) t u (none, all_loaded) (none_too, answers, left) = absurd (no_list bs y all_loaded.entries answers all_loaded.sheet)
+loads_one s bs (Ok c) (Err ShortTable) t u (none, all_loaded) (none_too, short, left) = absurd (never_short s t bs c short all_loaded)
+loads_one s bs (Ok c) (Ok d) t u (none, all_loaded) (none_too, all_too) = let same = same_loaded s t u bs c d all_loaded all_too in (ap Ok same.0, same.1)

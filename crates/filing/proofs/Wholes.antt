@@ -7,7 +7,7 @@ use Rattle.sheet.specs.Sound.{Sound, Numbered, need_count, counts}
 use Rattle.sheet.specs.Answers.{SheetOf, Answers}
 use Rattle.book.specs.Calls.{Open, used, Spared}
 use Rattle.filing.specs.Books.{amounts_of, book_of}
-use Rattle.filing.specs.Loads.{TooShort, Filed}
+use Rattle.filing.specs.Loads.{TooShort, AllLoaded}
 use Rattle.filing.specs.Passes.{Fitting, entries_alone, Filled}
 use Rattle.filing.proofs.Standing.{sound_at}
 use Rattle.filing.proofs.Filling.{filled_on, room_for}
@@ -45,8 +45,8 @@ pub fitting_then : (s t : Open) (bs : List ℕ) → Fitting bs s → ((es : List
 fitting_then s t bs f filled = let table = (filled f.entries f.sheet).spared.untouched.0 in record { entries = f.entries; sheet = f.sheet; room = omega (arith, f.room) }
 
 -- both passes together
-pub filed : (s m t : Open) (bs : List ℕ) (c : Counts) → Answers bs (Ok c) → Fitting bs s → ((es : List Entry) → SheetOf bs es → Filled (entries_alone es) s m) → ((es : List Entry) → SheetOf bs es → Filled (book_of es) m t) → Filed s bs c t
-filed s m t bs c (es, x, are) fits first then =
+pub all_loaded : (s m t : Open) (bs : List ℕ) (c : Counts) → Answers bs (Ok c) → Fitting bs s → ((es : List Entry) → SheetOf bs es → Filled (entries_alone es) s m) → ((es : List Entry) → SheetOf bs es → Filled (book_of es) m t) → AllLoaded s bs c t
+all_loaded s m t bs c (es, x, are) fits first then =
     let all = filled_on (entries_alone es) (book_of es) s m t (first es x) (then es x) (omega arith) (omega arith) in
     record {
       entries = es;

@@ -16,7 +16,7 @@ pub record TooShort (s : Open) (bs : List ℕ) : Type 0 where
   pub short : length s.table.now < used (book_of entries)
 
 -- the book t is that of the sheet bs, with these counts, in the table of s, whose other records are as they were
-pub record Filed (s : Open) (bs : List ℕ) (c : Counts) (t : Open) : Type 0 where
+pub record AllLoaded (s : Open) (bs : List ℕ) (c : Counts) (t : Open) : Type 0 where
   pub entries : List Entry
   pub sheet : SheetOf bs entries
   pub are : c ≡ counts entries
@@ -30,4 +30,4 @@ abbrev pub Loaded : Open → List ℕ → Result Counts LoadRefusal → Open →
 Loaded s bs (Err HasEntries) t = (0 < length s.book.entries) × (t ≡ s)
 Loaded s bs (Err (Sheet x)) t = (s.book.entries ≡ []) × Answers bs (Err x) × (t ≡ s)
 Loaded s bs (Err ShortTable) t = (s.book.entries ≡ []) × TooShort s bs × (t ≡ s)
-Loaded s bs (Ok c) t = (s.book.entries ≡ []) × Filed s bs c t
+Loaded s bs (Ok c) t = (s.book.entries ≡ []) × AllLoaded s bs c t

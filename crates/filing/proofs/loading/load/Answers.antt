@@ -5,7 +5,7 @@ use Rattle.book.specs.Values.{open_of}
 use Rattle.book.proofs.Enterings.{no_entries}
 use Rattle.filing.specs.declared.refusal.LoadRefusal.TheVariants.{Sheet, ShortTable}
 use Rattle.filing.proofs.Ones.{loads_one}
-use Rattle.filing.proofs.Wholes.{few_counts, too_short, fitting, fitting_then, filed}
+use Rattle.filing.proofs.Wholes.{few_counts, too_short, fitting, fitting_then, all_loaded}
 use Rattle.filing.proofs.loading.load.Goals as goal
 use Rattle.filing.proofs.loading.load.Goals.{After-read}
 
@@ -54,11 +54,11 @@ pub returns-clause-loaded : goal.returns-clause-loaded
 returns-clause-loaded c =
     let s = open_of c.args.book.now in
     let fits = fitting s c.args.sheet.now c.in_ok-counts.counts c.record_count.result c.in_ok-counts.ensures.answers c.record_count.ensures (omega arith) in
-    (none (goal.at.returns-clause-loaded c).After-read, filed s (open_of c.enter_all.new.book) (open_of c.need_all.new.book) c.args.sheet.now c.in_ok-counts.counts c.in_ok-counts.ensures.answers fits c.enter_all.ensures c.need_all.ensures)
+    (none (goal.at.returns-clause-loaded c).After-read, all_loaded s (open_of c.enter_all.new.book) (open_of c.need_all.new.book) c.args.sheet.now c.in_ok-counts.counts c.in_ok-counts.ensures.answers fits c.enter_all.ensures c.need_all.ensures)
 
 pub returns-clause-only : goal.returns-clause-only
 returns-clause-only c =
     let s = open_of c.args.book.now in
     let fits = fitting s c.args.sheet.now c.in_ok-counts.counts c.record_count.result c.in_ok-counts.ensures.answers c.record_count.ensures (omega arith) in
-    let loaded = filed s (open_of c.enter_all.new.book) (open_of c.need_all.new.book) c.args.sheet.now c.in_ok-counts.counts c.in_ok-counts.ensures.answers fits c.enter_all.ensures c.need_all.ensures in
+    let loaded = all_loaded s (open_of c.enter_all.new.book) (open_of c.need_all.new.book) c.args.sheet.now c.in_ok-counts.counts c.in_ok-counts.ensures.answers fits c.enter_all.ensures c.need_all.ensures in
     λ r t h. loads_one s c.args.sheet.now r (Ok c.in_ok-counts.counts) t (open_of c.need_all.new.book) h (none (goal.at.returns-clause-only c).After-read, loaded)
