@@ -24,7 +24,7 @@ never_both : (s : Open) → 0 < length s.book.entries → s.book.entries ≡ [] 
 never_both s some none = omega (arith, some, ap length none)
 
 -- a sheet that is refused stands for no list
-no_list : (bs : List ℕ) (x : SheetRefusal) (es : List Entry) → Answers bs (Err x) → SheetOf bs es → ⊥
+pub no_list : (bs : List ℕ) (x : SheetRefusal) (es : List Entry) → Answers bs (Err x) → SheetOf bs es → ⊥
 no_list bs x es a sheet = false≢true (ap is_ok (one_answer bs (Err x) (Ok (counts es)) a (es, sheet, refl)))
 
 -- there is room for a sheet's book, or there is not
