@@ -1,5 +1,6 @@
 -- Entering an entry: what passes the questions, and what the table holds then.
 use Rattle.std.proofs.Common.{◌≡◌, ℕ, ◌+◌, ◌-◌, ◌*◌, ◌<◌, ◌≤◌, List, map, length, get_or, set, None, Ok, sym, refl, ap, ◌∙◌, subst, ⊎_elim, arith, length-set}
+use Rattle.std.specs.Borrow.{MutBor}
 use Rattle.std.specs.List.{range_with_len}
 use Rattle.std.proofs.lemmas.List.{get_or_default, nil_from_length}
 use Rattle.std.proofs.lemmas.List.FromFn.{length-map-range_with_len, map-range_with_len_more}
@@ -18,8 +19,8 @@ use Rattle.book.proofs.Writes.{columns_entry, front_far}
 use Rattle.book.proofs.Keeping.{Kept, kept_entry}
 
 -- an open book of n entries and m needs over the table
-abbrev pub standing : List Record → ℕ → ℕ → Open
-standing table n m = record { table = table; book = book_in (columns table) n m }
+abbrev pub standing : MutBor (List Record) → ℕ → ℕ → Open
+standing lent n m = record { table = lent; book = book_in (columns lent.now) n m }
 
 -- what holds of its table
 pub record Fine (table : List Record) (n m : ℕ) : Type 0 where
@@ -35,14 +36,18 @@ fine b = record {
   kept = record { amounts = b.held.amounts; heads = b.held.heads; unsent = b.unsent; noted = b.noted; four = b.four; counted = b.counted; arcs = b.arcs };
 }
 
-pub entry_count : (table : List Record) (n m : ℕ) → length (standing table n m).book.entries ≡ n
+pub entry_count : (table : List Record) (n m : ℕ) → length (book_in (columns table) n m).entries ≡ n
 entry_count table n m = length-map-range_with_len (amounts_in (columns table)) 0 n
 
-pub need_count : (table : List Record) (n m : ℕ) → length (standing table n m).book.needs ≡ m
+pub need_count : (table : List Record) (n m : ℕ) → length (book_in (columns table) n m).needs ≡ m
 need_count table n m = length-map-range_with_len (need_in (columns table)) 0 m
 
-pub unused_count : (table : List Record) (n m : ℕ) → unused (standing table n m) ≡ length table - n - 2 * m
-unused_count table n m = omega (arith, entry_count table n m, need_count table n m)
+pub unused_count : (lent : MutBor (List Record)) (n m : ℕ) → unused (standing lent n m) ≡ length lent.now - n - 2 * m
+unused_count lent n m = omega (arith, entry_count lent.now n m, need_count lent.now n m)
+
+-- the same table, once these records are written
+abbrev pub written : MutBor (List Record) → List Record → MutBor (List Record)
+written lent new = record lent { now = new }
 
 -- a book without entries has no needs: each would lead to an entry
 pub no_entries : (b : OpenBook) → length (open_of b).book.entries ≡ 0 → (open_of b).book ≡ empty
@@ -76,12 +81,13 @@ book_entry c n m x y =
     λ i. record { entries = list i; needs = (book_in c n m).needs }
 
 -- an entry was entered, and the table is fine
-pub record After (table : List Record) (n m x y : ℕ) (new : List Record) : Type 0 where
+pub record After (lent : MutBor (List Record)) (n m x y : ℕ) (new : List Record) : Type 0 where
   pub fine : Fine new (n + 1) m
-  pub entered : Entered (standing table n m) x y (Ok n) (standing new (n + 1) m)
+  pub entered : Entered (standing lent n m) x y (Ok n) (standing (written lent new) (n + 1) m)
 
-after_written : (table : List Record) (n m x y spare : ℕ) → Fine table n m → Enters x y n spare → spare ≡ length table - n - 2 * m → enter_refused (standing table n m) x y ≡ None → After table n m x y (entry_written table n x y)
-after_written table n m x y spare f e is none =
+after_written : (lent : MutBor (List Record)) (n m x y spare : ℕ) → Fine lent.now n m → Enters x y n spare → spare ≡ length lent.now - n - 2 * m → enter_refused (standing lent n m) x y ≡ None → After lent n m x y (entry_written lent.now n x y)
+after_written lent n m x y spare f e is none =
+    let table = lent.now in
     let inside : n < length table = omega (arith, e.room) in
     record {
       fine = fine_entry table n m x y spare f e is;
@@ -89,17 +95,21 @@ after_written table n m x y spare f e is none =
         none,
         sym (entry_count table n m),
         ap (λ (c : Columns). book_in c (n + 1) m) (columns_entry table n x y inside) ∙ book_entry (columns table) n m x y,
-        (length-set table n _, λ k free. front_far table n _ k (λ is. omega (arith, free, entry_count (entry_written table n x y) (n + 1) m))),
+        record {
+          same_table = refl;
+          untouched = (length-set table n _, λ k free. front_far table n _ k (λ is. omega (arith, free, entry_count (entry_written table n x y) (n + 1) m)));
+        },
       );
     }
 
 -- so it is after r was written, which is made of the record that was there, where the counts are those of the book that stands
-pub after_entry : (b : OpenBook) (x y : ℕ) {count spare : ℕ} {r : Record} (d : Record) → count ≡ length (open_of b).book.entries → spare ≡ unused (open_of b) → Enters x y count spare → None ≡ enter_refusal x y count spare → r ≡ as_entry (get_or b.held.table.now b.held.entries d) x y → After b.held.table.now b.held.entries b.held.needs x y (set b.held.table.now b.held.entries r)
+pub after_entry : (b : OpenBook) (x y : ℕ) {count spare : ℕ} {r : Record} (d : Record) → count ≡ length (open_of b).book.entries → spare ≡ unused (open_of b) → Enters x y count spare → None ≡ enter_refusal x y count spare → r ≡ as_entry (get_or b.held.table.now b.held.entries d) x y → After b.held.table b.held.entries b.held.needs x y (set b.held.table.now b.held.entries r)
 after_entry b x y {count} {spare} {r} d is left e none made =
     let table = b.held.table.now in
     let n = b.held.entries in
     let m = b.held.needs in
-    let inside : n < length table = omega (arith, e.room, unused_count table n m) in
+    let unused_here = unused_count b.held.table n m in
+    let inside : n < length table = omega (arith, e.room, unused_here) in
     let same : set table n r ≡ entry_written table n x y = ap (set table n) (made ∙ ap (λ (old : Record). as_entry old x y) (get_or_default table n d no_record inside)) in
     let here : Enters x y n spare = subst (λ k. Enters x y k spare) (is ∙ entry_count table n m) e in
-    subst (After table n m x y) (sym same) (after_written table n m x y spare (fine b) here (left ∙ unused_count table n m) (cc))
+    subst (After b.held.table n m x y) (sym same) (after_written b.held.table n m x y spare (fine b) here (left ∙ unused_here) (cc))

@@ -1,5 +1,6 @@
 -- Entering a need: what passes the questions, and what the table holds then.
 use Rattle.std.proofs.Common.{◌≡◌, ℕ, zero, suc, ◌+◌, ◌-◌, ◌*◌, ◌<◌, ◌≤◌, eqb, List, length, get_or, take, None, Ok, sym, refl, ap, ◌∙◌, subst, arith, length-set, ⊎_elim, sum_by, add-one}
+use Rattle.std.specs.Borrow.{MutBor}
 use Rattle.std.proofs.lemmas.Bool.{cases_lt}
 use Rattle.std.proofs.lemmas.Bool.Decides.{nat_tests}
 use Rattle.std.proofs.lemmas.List.{get_or-take, length-take-le}
@@ -20,7 +21,7 @@ use Rattle.book.specs.Calls.{unused, need_refused, Needed}
 use Rattle.book.proofs.Counts.{kept_at_most}
 use Rattle.book.proofs.Writes.{columns_needing, columns_more, columns_arc, front_far}
 use Rattle.book.proofs.Keeping.{Kept, with_need_at, book_need, kept_need}
-use Rattle.book.proofs.Enterings.{standing, Fine, fine, entry_count, need_count, unused_count}
+use Rattle.book.proofs.Enterings.{standing, Fine, fine, entry_count, need_count, unused_count, written}
 
 -- The entries' records by themselves.
 
@@ -111,12 +112,13 @@ written_far table m u w k not_u not_w unused =
     front_far along _ _ k (λ is. omega arith) ∙ (front_far counted _ _ k (λ is. omega arith) ∙ (front_far noted _ _ k not_w ∙ front_far table _ _ k not_u))
 
 -- a need was entered, and the table is fine
-pub record After (table : List Record) (n m u w : ℕ) (new : List Record) : Type 0 where
+pub record After (lent : MutBor (List Record)) (n m u w : ℕ) (new : List Record) : Type 0 where
   pub fine : Fine new n (m + 1)
-  pub needed : Needed (standing table n m) u w (Ok tt) (standing new n (m + 1))
+  pub needed : Needed (standing lent n m) u w (Ok tt) (standing (written lent new) n (m + 1))
 
-after_written : (table : List Record) (n m u w spare : ℕ) → Fine table n m → Needs u w ((columns table).needed u) n spare → spare ≡ length table - n - 2 * m → need_refused (standing table n m) u w ≡ None → After table n m u w (need_written table m u w)
-after_written table n m u w spare f e is none =
+after_written : (lent : MutBor (List Record)) (n m u w spare : ℕ) → Fine lent.now n m → Needs u w ((columns lent.now).needed u) n spare → spare ≡ length lent.now - n - 2 * m → need_refused (standing lent n m) u w ≡ None → After lent n m u w (need_written lent.now m u w)
+after_written lent n m u w spare f e is none =
+    let table = lent.now in
     let four = f.kept.four u e.there in
     let told = columns_need table m u w (omega (arith, f.room, e.there, e.room)) (omega (arith, f.room, e.needed_there, e.room)) (omega (arith, f.room, e.room)) (omega (arith, e.few, four)) in
     record {
@@ -128,20 +130,23 @@ after_written table n m u w spare f e is none =
       needed = (
         none,
         ap (λ (c : Columns). book_in c n (m + 1)) told ∙ book_need (columns table) n m u w,
-        (
-          written_length table m u w,
-          λ k free.
-              let new = need_written table m u w in
-              let entries = entry_count new n (m + 1) in
-              let needs = need_count new n (m + 1) in
-              let long = written_length table m u w in
-              written_far table m u w k (λ is. omega (arith, free, entries, e.there)) (λ is. omega (arith, free, entries, e.needed_there)) (omega (arith, free, needs, long)),
-        ),
+        record {
+          same_table = refl;
+          untouched = (
+            written_length table m u w,
+            λ k free.
+                let new = need_written table m u w in
+                let entries = entry_count new n (m + 1) in
+                let needs = need_count new n (m + 1) in
+                let long = written_length table m u w in
+                written_far table m u w k (λ is. omega (arith, free, entries, e.there)) (λ is. omega (arith, free, entries, e.needed_there)) (omega (arith, free, needs, long)),
+          );
+        },
       );
     }
 
 -- so it is after the need was written, where the questions were put to the entries' records
-pub after_need : (b : OpenBook) (u w : ℕ) {spare : ℕ} {entries new : List Record} → entries ≡ take b.held.entries b.held.table.now → spare ≡ unused (open_of b) → Needs u w ((columns entries).needed u) (length entries) spare → None ≡ need_refusal u w ((columns entries).needed u) (length entries) spare → new ≡ need_written b.held.table.now b.held.needs u w → After b.held.table.now b.held.entries b.held.needs u w new
+pub after_need : (b : OpenBook) (u w : ℕ) {spare : ℕ} {entries new : List Record} → entries ≡ take b.held.entries b.held.table.now → spare ≡ unused (open_of b) → Needs u w ((columns entries).needed u) (length entries) spare → None ≡ need_refusal u w ((columns entries).needed u) (length entries) spare → new ≡ need_written b.held.table.now b.held.needs u w → After b.held.table b.held.entries b.held.needs u w new
 after_need b u w {spare} {entries} is left e none made =
     let table = b.held.table.now in
     let n = b.held.entries in
@@ -150,4 +155,4 @@ after_need b u w {spare} {entries} is left e none made =
     let there : u < n = omega (arith, e.there) in
     let needed : (columns entries).needed u ≡ (columns table).needed u = rw (is, front_of table n u there) refl in
     let here : Needs u w ((columns table).needed u) n spare = subst (λ k. Needs u w ((columns table).needed u) k spare) count (subst (λ xs. Needs u w xs (length entries) spare) needed e) in
-    subst (After table n m u w) (sym made) (after_written table n m u w spare (fine b) here (left ∙ unused_count table n m) (sym (none ∙ need_asked b u w is left)))
+    subst (After b.held.table n m u w) (sym made) (after_written b.held.table n m u w spare (fine b) here (left ∙ unused_count b.held.table n m) (sym (none ∙ need_asked b u w is left)))

@@ -4,7 +4,7 @@ use Rattle.std.proofs.lemmas.Bool.{cases_Bool, cases_eq, cases_lt, lt-ltb}
 use Rattle.std.proofs.lemmas.Bool.Decides.{nat_tests}
 use Rattle.std.proofs.ByRecursion.{All-get_or, All-from_get_or}
 use Rattle.network.specs.Nets.{Net}
-use Rattle.network.specs.Cuts.{Selection, sum_below, node_cost, leaves, arc_cost, cost, Cheapest}
+use Rattle.network.specs.Cuts.{Selection, sum_below, node_cost, leaves, arc_cost, cost, Cheapest, CheapestCost}
 use Rattle.network.proofs.Sums.{sum_zero, part_le_sum}
 use Rattle.book.specs.Books.{Book, no_amounts, no_need, binding, network_of}
 use Rattle.book.specs.Plans.{Plan, total_earnings, earned, paid, SoundBook, PlansAreBest}
@@ -119,3 +119,7 @@ plans_are_best b sound = record {
   greatest = λ X Y cheapest plan. omega (arith, plan_costs b X (cheapest_plan b X sound cheapest), plan_costs b Y plan, cheapest Y);
   only = λ X. greatest_cheapest b X sound;
 }
+
+-- a cheapest selection costs no more than all entries earn
+pub within_earnings : (b : Book) (v : Net) (c : ℕ) → v ≡ network_of b → CheapestCost v c → c ≤ total_earnings b
+within_earnings b v c same cut = let (X, cheapest, is) = subst (λ w. CheapestCost w c) same cut in omega (arith, cheapest nothing, nothing_costs b)

@@ -1,5 +1,6 @@
 -- What the calls on an open book answer, and what they leave of its table and of the book.
 use Rattle.std.specs.Prelude.{◌≡◌, ℕ, ◌+◌, ◌-◌, ◌*◌, ◌<◌, ◌≤◌, List, length, Some, None, Ok, Err, Option, Result}
+use Rattle.std.specs.Borrow.{MutBor}
 use Rattle.book.specs.declared.record.Record.{Record}
 use Rattle.book.specs.declared.refusal.EnterRefusal.{EnterRefusal}
 use Rattle.book.specs.declared.refusal.NeedRefusal.{NeedRefusal}
@@ -8,18 +9,18 @@ use Rattle.book.specs.Books.{Book, empty, with_entry, with_need, needs_of, netwo
 use Rattle.book.specs.Tables.{front}
 use Rattle.book.specs.Refusals.{enter_refusal, need_refusal}
 
--- an open book as it stands: its table, and what it holds
+-- an open book as it stands: the table that it borrows, and what it holds
 pub record Open : Type 0 where
-  pub table : List Record
+  pub table : MutBor (List Record)
   pub book : Book
 
 -- a new book over a table
-abbrev pub new_book : List Record → Open
+abbrev pub new_book : MutBor (List Record) → Open
 new_book table = record { table = table; book = empty }
 
--- a sealed book as it stands: its table, and what it is as a network
+-- a sealed book as it stands: the table that it borrows, and what it is as a network
 pub record Shut : Type 0 where
-  pub table : List Record
+  pub table : MutBor (List Record)
   pub net : Net
 
 -- an entry uses one record, and a need two
@@ -27,7 +28,7 @@ abbrev pub used : Book → ℕ
 used b = length b.entries + 2 * length b.needs
 
 abbrev pub unused : Open → ℕ
-unused s = length s.table - used s.book
+unused s = length s.table.now - used s.book
 
 -- entries use records from the front of the table, needs from its end: a record between them is unused
 abbrev pub Unused : ℕ → ℕ → ℕ → ℕ → Type 0
@@ -37,9 +38,10 @@ Unused size n m k = (n ≤ k) × (k + 2 * m < size)
 abbrev pub Untouched : ℕ → ℕ → List Record → List Record → Type 0
 Untouched n m before after = (length after ≡ length before) × ((k : ℕ) → Unused (length after) n m k → front after k ≡ front before k)
 
--- and so are those that the book b does not use
-abbrev pub Spared : Book → List Record → List Record → Type 0
-Spared b before after = Untouched (length b.entries) (length b.needs) before after
+-- the table is borrowed by the same borrow, told by its name, and the records that the book b does not use are as they were
+pub record Spared (b : Book) (before after : MutBor (List Record)) : Type 0 where
+  pub same_table : after.ghost_name ≡ before.ghost_name
+  pub untouched : Untouched (length b.entries) (length b.needs) before.now after.now
 
 abbrev pub enter_refused : Open → ℕ → ℕ → Option EnterRefusal
 enter_refused s x y = enter_refusal x y (length s.book.entries) (unused s)

@@ -11,7 +11,7 @@ use Rattle.book.specs.Tables.{columns, book_in, network_in}
 use Rattle.book.specs.Laws.{lawful}
 
 abbrev pub open_of : OpenBook → Open
-open_of b = record { table = b.held.table.now; book = book_in (columns b.held.table.now) b.held.entries b.held.needs }
+open_of b = record { table = b.held.table; book = book_in (columns b.held.table.now) b.held.entries b.held.needs }
 
 -- the table of a sealed book, and its value as a network
 abbrev pub sealed_table : SealedBook → List Record
@@ -24,7 +24,7 @@ pub sealed_lawful : (b : SealedBook) → Lawful (sealed_value b)
 sealed_lawful b = lawful (columns (sealed_table b)) b.held.entries b.held.needs b.held.few b.bound b.held.amounts b.held.heads b.pairs
 
 abbrev pub sealed_of : SealedBook → Shut
-sealed_of b = record { table = sealed_table b; net = sealed_value b }
+sealed_of b = record { table = b.held.table; net = sealed_value b }
 
 -- y is over the same table as x, with as many entries and needs, and the records that these do not use are as they were
 pub record SealedKeeps (x y : SealedBook) : Type 0 where

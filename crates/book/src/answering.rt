@@ -30,7 +30,7 @@ impl<'a> SealedBook<'a> {
 
     // Ends the book and gives its table back.
     pub fn release(self) -> &'a mut [Record]
-        ensures { result.now ≡ (sealed_of self.entry).table }
+        ensures { result ≡ (sealed_of self.entry).table }
     {
         self.held.release()
     }

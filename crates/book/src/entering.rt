@@ -18,7 +18,7 @@ impl<'a> OpenBook<'a> {
     // A book without entries over the table, which stays as it is.
     #[tactic(auto, unfolding(network::specs::Cuts::sum_below))]
     pub fn new(table: &'a mut [Record]) -> OpenBook<'a>
-        ensures { open_of result ≡ new_book table.old }
+        ensures { open_of result ≡ new_book table.entry }
     {
         OpenBook {
             held: Held {
@@ -52,7 +52,7 @@ impl<'a> OpenBook<'a> {
 
     // How many records the table has.
     pub fn record_count(&self) -> usize
-        ensures { result ≡ length (open_of self.now).table }
+        ensures { result ≡ length (open_of self.now).table.now }
     {
         self.held.table.len()
     }
@@ -97,7 +97,7 @@ impl<'a> OpenBook<'a> {
 
     // Ends the book and gives its table back.
     pub fn release(self) -> &'a mut [Record]
-        ensures { result.now ≡ (open_of self.entry).table }
+        ensures { result ≡ (open_of self.entry).table }
     {
         self.held.release()
     }

@@ -20,7 +20,7 @@ pub(crate) struct Held<'a> {
 impl<'a> Held<'a> {
     // Gives the table back.
     pub(crate) fn release(self) -> &'a mut [Record]
-        ensures { result.now ≡ self.entry.table.now }
+        ensures { result ≡ self.entry.table }
     {
         self.table
     }

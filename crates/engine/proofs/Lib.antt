@@ -1,3 +1,6 @@
 -- The lemmas that the answers share.
 pub mod Ones
-pub mod Lines
+pub mod Texts
+pub mod Rights
+pub mod Histories
+pub mod Finishing

@@ -1,3 +1,8 @@
 -- The definitions that the contracts cite.
+pub mod Answers
+pub mod Texts
+pub mod Values
+pub mod Refusals
 pub mod Plans
 pub mod Listings
+pub mod Histories

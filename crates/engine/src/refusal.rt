@@ -1,23 +1,24 @@
 // Why an input is refused, and what each refusal tells.
 ghost use Rattle.std.specs.Prelude.{◌≡◌};
-ghost use Rattle.engine.specs.Plans.{told_of};
-ghost use Rattle.engine.specs.declared.refusal.PlanRefusal.TheVariants.{Sheet};
+ghost use Rattle.engine.specs.Refusals.{told};
+ghost use Rattle.engine.specs.declared.refusal.PlanRefusal.TheVariants.{Load};
 
-use sheet::{SheetRefusal, Told};
+use filing::LoadRefusal;
+use sheet::Told;
 
 #[derive(Clone, Copy, PartialEq, Eq, Debug)]
 pub enum PlanRefusal {
     // there are more bytes than a sheet may have
     TooLong,
-    // the sheet itself is refused
-    Sheet(SheetRefusal),
+    // the sheet is not loaded
+    Load(LoadRefusal),
 }
 
-impl From<SheetRefusal> for PlanRefusal {
-    ghost from_gives = { λ refusal plan. plan ≡ Sheet refusal };
+impl From<LoadRefusal> for PlanRefusal {
+    ghost from_gives = { λ refusal plan. plan ≡ Load refusal };
 
-    fn from(refusal: SheetRefusal) -> Self {
-        Self::Sheet(refusal)
+    fn from(refusal: LoadRefusal) -> Self {
+        Self::Load(refusal)
     }
 }
 
@@ -25,7 +26,7 @@ impl PlanRefusal {
     // The number of the refusal, and the record that it is about by its number and first byte: a rule of the project has a method
     // answer these.
     pub fn told(self) -> Told
-        ensures { result ≡ told_of self }
+        ensures { result ≡ told self }
     {
         match self {
             PlanRefusal::TooLong => Told {
@@ -33,7 +34,7 @@ impl PlanRefusal {
                 record: 0,
                 byte: 0,
             },
-            PlanRefusal::Sheet(refusal) => refusal.told(),
+            PlanRefusal::Load(refusal) => refusal.told(),
         }
     }
 }

@@ -29,7 +29,7 @@ small None h = omega arith
 small (Some x) h = h.1
 
 -- no question refuses the next entry
-passes : (bs : List ℕ) (es : List Entry) (from to : Cursor) (s t : Open) (r : Record) → SheetOf bs es → used (book_of es) ≤ length s.table → EntriesRead bs es from s t → HandedOut bs from to r → enter_refused t (amount (entry_at bs r).earning) (amount (entry_at bs r).cost) ≡ None
+passes : (bs : List ℕ) (es : List Entry) (from to : Cursor) (s t : Open) (r : Record) → SheetOf bs es → used (book_of es) ≤ length s.table.now → EntriesRead bs es from s t → HandedOut bs from to r → enter_refused t (amount (entry_at bs r).earning) (amount (entry_at bs r).cost) ≡ None
 passes bs es from to s t r x room e h =
     let now = turn bs es from to r x e.standing h in
     let earning = small (entry_at bs r).earning h.sound.earning in
@@ -39,7 +39,7 @@ passes bs es from to s t r x room e h =
     let needs : length t.book.needs ≡ 0 = ap (λ (b : Book). length b.needs) e.filled.book in
     let all = length-map es amounts_of in
     let more = now.more in
-    let table = e.filled.spared.0 in
+    let table = e.filled.spared.untouched.0 in
     let left : 0 < unused t = omega arith in
     grind (arith, nat_tests)
 
@@ -48,7 +48,7 @@ entered_ok t u x y (Ok i) none h = refl
 entered_ok t u x y (Err e) none h = let never : ◌≡◌ {A = ℕ} 0 1 = cc in absurd (omega arith)
 
 -- so it is entered
-pub enters : (bs : List ℕ) (es : List Entry) (from to : Cursor) (s t u : Open) (r : Record) (a : Result ℕ EnterRefusal) → SheetOf bs es → used (book_of es) ≤ length s.table → EntriesRead bs es from s t → HandedOut bs from to r → Entered t (amount (entry_at bs r).earning) (amount (entry_at bs r).cost) a u → is_ok a ≡ true
+pub enters : (bs : List ℕ) (es : List Entry) (from to : Cursor) (s t u : Open) (r : Record) (a : Result ℕ EnterRefusal) → SheetOf bs es → used (book_of es) ≤ length s.table.now → EntriesRead bs es from s t → HandedOut bs from to r → Entered t (amount (entry_at bs r).earning) (amount (entry_at bs r).cost) a u → is_ok a ≡ true
 enters bs es from to s t u r a x room e h = entered_ok t u (amount (entry_at bs r).earning) (amount (entry_at bs r).cost) a (passes bs es from to s t r x room e h)
 
 -- what was entered, where its amounts were read at the places of a record

@@ -11,13 +11,19 @@ use Rattle.filing.specs.Passes.{Fitting, Filled}
 
 -- a book is filled with what it holds
 pub filled_none : (s : Open) → Filled s.book s s
-filled_none s = record { book = refl; spared = (refl, λ k free. refl) }
+filled_none s = record { book = refl; spared = record { same_table = refl; untouched = (refl, λ k free. refl) } }
 
 -- filled with b and then with more
 pub filled_on : (b c : Book) (s m t : Open) → Filled b s m → Filled c m t → length b.entries ≤ length c.entries → length b.needs ≤ length c.needs → Filled c s t
 filled_on b c s m t first then entries needs = record {
   book = then.book;
-  spared = (then.spared.0 ∙ first.spared.0, λ k free. then.spared.1 k free ∙ first.spared.1 k (omega (arith, free.0), omega (arith, free.1, then.spared.0)));
+  spared =
+      let old = first.spared.untouched in
+      let new = then.spared.untouched in
+      record {
+        same_table = then.spared.same_table ∙ first.spared.same_table;
+        untouched = (new.0 ∙ old.0, λ k free. new.1 k free ∙ old.1 k (omega (arith, free.0), omega (arith, free.1, new.0)));
+      };
 }
 
 pub filled_entry : (b : Book) (s t u : Open) (x y i : ℕ) → Filled b s t → Entered t x y (Ok i) u → Filled (with_entry b x y) s u
@@ -31,5 +37,5 @@ filled_need b s t u v w f (none, book, spared) =
     filled_on b (with_need b v w) s t u f (record { book = is; spared = subst (λ (c : Book). Spared c t.table u.table) is spared }) (omega arith) (omega (arith, length_push b.needs (record { entry = v; needed = w })))
 
 -- where a sheet's book has room, that of every list that the sheet stands for has, since there is only one
-pub room_for : (bs : List ℕ) (s : Open) (es : List Entry) → Fitting bs s → SheetOf bs es → used (book_of es) ≤ length s.table
-room_for bs s es f x = subst (λ ds. used (book_of ds) ≤ length s.table) (one_list bs f.entries es f.sheet x) f.room
+pub room_for : (bs : List ℕ) (s : Open) (es : List Entry) → Fitting bs s → SheetOf bs es → used (book_of es) ≤ length s.table.now
+room_for bs s es f x = subst (λ ds. used (book_of ds) ≤ length s.table.now) (one_list bs f.entries es f.sheet x) f.room

@@ -100,7 +100,7 @@ passes s t u j ns f filled inside =
     let entries : length t.book.entries ≡ length s.book.entries = ap (λ (b : Book). length b.entries) filled.book in
     let needs : length t.book.needs ≡ length s.book.needs + j = ap (λ (b : Book). length b.needs) filled.book ∙ omega (arith, length-append s.book.needs (needs_by u (take j ns)), length_by u (take j ns)) in
     let already : needs_of u t.book.needs ≡ take j ns = ap (λ (b : Book). needs_of u b.needs) filled.book ∙ (needs_of_both u s.book.needs (needs_by u (take j ns)) ∙ rw (f.none, needs_of_own u (take j ns)) refl) in
-    let table = filled.spared.0 in
+    let table = filled.spared.untouched.0 in
     let all_there = All-get_or (λ k. k < length s.book.entries) ns j 0 inside f.all_there in
     let other = All-get_or (λ k. k ≢ u) ns j 0 inside f.ordered.others in
     rw already (no_refusal u w (take j ns) (length t.book.entries) (unused t) (record {
@@ -156,7 +156,7 @@ next_needs k es more =
     ap (λ n. needs_from 0 (take n es)) first ∙ (needs_from_more 0 k es more ∙ ap (λ n. needs_from 0 (take k es) ++ needs_by n (get_or es k no_entry).needs) number)
 
 -- the next entry may have its needs
-pub next_fits : (bs : List ℕ) (es : List Entry) (from to : Cursor) (s t : Open) (r : Record) → SheetOf bs es → used (book_of es) ≤ length s.table → NeedsRead bs es from s t → HandedOut bs from to r → NeedsFit t r.number (entry_at bs r).needs
+pub next_fits : (bs : List ℕ) (es : List Entry) (from to : Cursor) (s t : Open) (r : Record) → SheetOf bs es → used (book_of es) ≤ length s.table.now → NeedsRead bs es from s t → HandedOut bs from to r → NeedsFit t r.number (entry_at bs r).needs
 next_fits bs es from to s t r x room n h =
     let now = turn bs es from to r x n.standing h in
     let k = from.number in
@@ -170,7 +170,7 @@ next_fits bs es from to s t r x room n h =
     let both = length-append (needs_from 0 (take k es)) (needs_by k e.needs) in
     let own = length_by k e.needs in
     let all = needs_from_few 0 (k + 1) es in
-    let table = n.filled.spared.0 in
+    let table = n.filled.spared.untouched.0 in
     let size = length-map es amounts_of in
     let here : NeedsFit t k e.needs = record {
       there = omega arith;

@@ -24,12 +24,12 @@ never_both : (s : Open) → 0 < length s.book.entries → s.book.entries ≡ [] 
 never_both s some none = omega (arith, some, ap length none)
 
 -- a sheet that is refused stands for no list
-no_list : (bs : List ℕ) (x : SheetRefusal) (es : List Entry) → Answers bs (Err x) → SheetOf bs es → ⊥
+pub no_list : (bs : List ℕ) (x : SheetRefusal) (es : List Entry) → Answers bs (Err x) → SheetOf bs es → ⊥
 no_list bs x es a sheet = false≢true (ap is_ok (one_answer bs (Err x) (Ok (counts es)) a (es, sheet, refl)))
 
 -- there is room for a sheet's book, or there is not
 never_short : (s t : Open) (bs : List ℕ) (c : Counts) → TooShort s bs → AllLoaded s bs c t → ⊥
-never_short s t bs c h k = omega (arith, k.room, subst (λ es. length s.table < used (book_of es)) (one_list bs h.entries k.entries h.sheet k.sheet) h.short)
+never_short s t bs c h k = omega (arith, k.room, subst (λ es. length s.table.now < used (book_of es)) (one_list bs h.entries k.entries h.sheet k.sheet) h.short)
 
 same_loaded : (s t u : Open) (bs : List ℕ) (c d : Counts) → AllLoaded s bs c t → AllLoaded s bs d u → (c ≡ d) × (t.book ≡ u.book)
 same_loaded s t u bs c d h k =

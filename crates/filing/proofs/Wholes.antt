@@ -33,16 +33,16 @@ used_by es c are =
     omega (arith, length-map es amounts_of, length_needs 0 es)
 
 -- the table has too few records
-pub too_short : (s : Open) (bs : List ℕ) (c : Counts) (size : ℕ) → Answers bs (Ok c) → size ≡ length s.table → size < c.entries + 2 * c.needs → TooShort s bs
+pub too_short : (s : Open) (bs : List ℕ) (c : Counts) (size : ℕ) → Answers bs (Ok c) → size ≡ length s.table.now → size < c.entries + 2 * c.needs → TooShort s bs
 too_short s bs c size (es, x, are) is short = record { entries = es; sheet = x; short = omega (arith, used_by es c are) }
 
 -- or enough
-pub fitting : (s : Open) (bs : List ℕ) (c : Counts) (size : ℕ) → Answers bs (Ok c) → size ≡ length s.table → c.entries + 2 * c.needs ≤ size → Fitting bs s
+pub fitting : (s : Open) (bs : List ℕ) (c : Counts) (size : ℕ) → Answers bs (Ok c) → size ≡ length s.table.now → c.entries + 2 * c.needs ≤ size → Fitting bs s
 fitting s bs c size (es, x, are) is enough = record { entries = es; sheet = x; room = omega (arith, used_by es c are) }
 
 -- which it still has after the first pass
 pub fitting_then : (s t : Open) (bs : List ℕ) → Fitting bs s → ((es : List Entry) → SheetOf bs es → Filled (entries_alone es) s t) → Fitting bs t
-fitting_then s t bs f filled = let table = (filled f.entries f.sheet).spared.0 in record { entries = f.entries; sheet = f.sheet; room = omega (arith, f.room) }
+fitting_then s t bs f filled = let table = (filled f.entries f.sheet).spared.untouched.0 in record { entries = f.entries; sheet = f.sheet; room = omega (arith, f.room) }
 
 -- both passes together
 pub all_loaded : (s m t : Open) (bs : List ℕ) (c : Counts) → Answers bs (Ok c) → Fitting bs s → ((es : List Entry) → SheetOf bs es → Filled (entries_alone es) s m) → ((es : List Entry) → SheetOf bs es → Filled (book_of es) m t) → AllLoaded s bs c t

@@ -13,14 +13,14 @@ use Rattle.filing.specs.Books.{book_of}
 pub record TooShort (s : Open) (bs : List ℕ) : Type 0 where
   pub entries : List Entry
   pub sheet : SheetOf bs entries
-  pub short : length s.table < used (book_of entries)
+  pub short : length s.table.now < used (book_of entries)
 
 -- the book t is that of the sheet bs, with these counts, in the table of s, whose other records are as they were
 pub record AllLoaded (s : Open) (bs : List ℕ) (c : Counts) (t : Open) : Type 0 where
   pub entries : List Entry
   pub sheet : SheetOf bs entries
   pub are : c ≡ counts entries
-  pub room : used (book_of entries) ≤ length s.table
+  pub room : used (book_of entries) ≤ length s.table.now
   pub book : t.book ≡ book_of entries
   pub spared : Spared t.book s.table t.table
 

@@ -12,7 +12,7 @@ use Rattle.filing.specs.Books.{amounts_of, needs_by, book_of}
 pub record Fitting (bs : List ℕ) (s : Open) : Type 0 where
   pub entries : List Entry
   pub sheet : SheetOf bs entries
-  pub room : used (book_of entries) ≤ length s.table
+  pub room : used (book_of entries) ≤ length s.table.now
 
 -- the book of these entries before their needs are entered
 abbrev pub entries_alone : List Entry → Book
@@ -34,4 +34,4 @@ pub record NeedsFit (s : Open) (u : ℕ) (ns : List ℕ) : Type 0 where
   pub ordered : Ordered u ns
   pub few : length ns ≤ 4
   pub none : needs_of u s.book.needs ≡ []
-  pub room : used s.book + 2 * length ns ≤ length s.table
+  pub room : used s.book + 2 * length ns ≤ length s.table.now

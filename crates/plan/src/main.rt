@@ -1,4 +1,4 @@
-// Reads a sheet from standard input, and prints the line that tells its answer.
+// Reads a sheet from standard input, and prints its best plans.
 #![tactic(auto)]
 
 use anyhow::ensure;

@@ -1,0 +1,34 @@
+-- The right answer for a book: its best plans, as its cheapest selections tell them.
+use Rattle.std.specs.Prelude.{◌≡◌, ℕ, ◌+◌, ◌≤◌, List, length, Some}
+use Rattle.std.specs.List.{slice_get}
+use Rattle.network.specs.declared.mark.Mark.{Mark}
+use Rattle.network.specs.Nets.{Net}
+use Rattle.network.specs.Cuts.{Selection, CheapestCost, Marked}
+use Rattle.book.specs.Books.{Book, network_of}
+use Rattle.book.specs.Plans.{Plan, total_earnings, earned, paid}
+use Rattle.sheet.specs.declared.Counts.{Counts}
+
+pub record Answer : Type 0 where
+  pub counts : Counts
+  pub least : ℕ
+  pub net : ℕ
+  -- the entries' marks, in order of number
+  pub marks : List Mark
+
+-- a mark for each node, true of the cheapest selections
+abbrev pub AllMarked : Net → List Mark → Type 0
+AllMarked v marks = (length marks ≡ v.graph.nodes) × ((u : ℕ) (m : Mark) → slice_get marks u ≡ Some m → Marked v u m)
+
+-- k is the net of a plan, and no plan has a greater one
+pub record GreatestNet (b : Book) (k : ℕ) : Type 0 where
+  pub plan : (X : Selection) × Plan b X × (earned b X ≡ paid b X + k)
+  pub greatest : (X : Selection) → Plan b X → earned b X ≤ paid b X + k
+
+pub record Right (b : Book) (a : Answer) : Type 0 where
+  pub entries : a.counts.entries ≡ length b.entries
+  pub needs : a.counts.needs ≡ length b.needs
+  -- what the cheapest selections cost, and what is left of the total earnings
+  pub least : CheapestCost (network_of b) a.least
+  pub rest : a.least + a.net ≡ total_earnings b
+  pub net : GreatestNet b a.net
+  pub marks : AllMarked (network_of b) a.marks
