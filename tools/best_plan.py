@@ -13,6 +13,7 @@ import sys
 MOST_BYTES = 8192
 MOST_ENTRIES = 4096
 MOST_AMOUNT = 1000000
+RECORDS = 2048
 BINDING = 8000000000
 
 Entry = collections.namedtuple("Entry", "earning cost needs start")
@@ -59,6 +60,8 @@ def entries_of(sheet):
     for number, entry in enumerate(entries):
         if any(needed >= len(entries) for needed in entry.needs):
             raise Refused(18, number, entry.start)
+    if len(entries) + 2 * sum(len(entry.needs) for entry in entries) > RECORDS:
+        raise Refused(19, 0, 0)
     return entries
 
 

@@ -10,8 +10,9 @@ use Rattle.book.specs.declared.record.Record.{Record}
 use Rattle.book.specs.Books.{empty, no_amounts, with_entry}
 use Rattle.book.specs.Records.{as_entry}
 use Rattle.book.specs.Tables.{Columns, columns, no_record, front, amounts_in, need_in, book_in}
-use Rattle.book.specs.Writes.{with_entry_at}
-use Rattle.book.specs.Refusals.{enter_refusal, Enters}
+use Rattle.book.proofs.Changes.{with_entry_at}
+use Rattle.book.specs.Refusals.{enter_refusal}
+use Rattle.book.specs.Accepted.{Enters}
 use Rattle.book.specs.Values.{open_of}
 use Rattle.book.specs.Calls.{Open, unused, enter_refused, Entered}
 use Rattle.book.proofs.Counts.{map_same}

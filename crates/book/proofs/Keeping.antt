@@ -11,7 +11,7 @@ use Rattle.network.specs.Cuts.{sum_below}
 use Rattle.network.proofs.Sums.{sum_same, sum_differs}
 use Rattle.book.specs.Books.{Need, needs_of, mate, binding, no_need, with_need}
 use Rattle.book.specs.Tables.{Columns, need_in, book_in, arcs_of, SmallAmounts, HeadsThere, Unsent, NeedsNoted, AtMostFour, NeedsCounted, ArcsCounted}
-use Rattle.book.specs.Writes.{with_entry_at, with_arc, with_arcs, with_needed}
+use Rattle.book.proofs.Changes.{with_entry_at, with_arc, with_arcs, with_needed}
 use Rattle.book.proofs.Counts.{map_same, kept_same, kept_more, kept_none, all_counting}
 
 -- what holds of the columns of n entries and m needs
@@ -68,12 +68,14 @@ needs_told c m u w =
 pub book_need : (c : Columns) (n m u w : ℕ) → book_in (with_need_at c m u w) n (m + 1) ≡ with_need (book_in c n m) u w
 book_need c n m u w = λ i. record { entries = (book_in c n m).entries; needs = needs_told c m u w i }
 
--- with one need more, the entry that has it needs one more
+-- of needs that stand behind others, an entry has those among both
+pub needs_of_both : (u : ℕ) (ms ns : List Need) → needs_of u (ms ++ ns) ≡ needs_of u ms ++ needs_of u ns
+needs_of_both u ms ns =
+    let both = filter-append (λ (x : Need). eqb x.entry u) ms ns in
+    ap (map (λ (x : Need). x.needed)) both ∙ map-append (λ (x : Need). x.needed) (filter (λ (x : Need). eqb x.entry u) ms) (filter (λ (x : Need). eqb x.entry u) ns)
+
 needs_more : (v : ℕ) (ns : List Need) (x : Need) → needs_of v (ns ++ x ∷ []) ≡ needs_of v ns ++ cond (eqb x.entry v) (x.needed ∷ []) []
-needs_more v ns x =
-    let parts = filter-append (λ (y : Need). eqb y.entry v) ns (x ∷ []) in
-    let names = map-append (λ (y : Need). y.needed) (filter (λ (y : Need). eqb y.entry v) ns) (filter (λ (y : Need). eqb y.entry v) (x ∷ [])) in
-    grind (arith, nat_tests)
+needs_more v ns x = let both = needs_of_both v ns (x ∷ []) in grind (arith, nat_tests)
 
 -- and each of its two entries has an arc more
 arcs_more : (c : Columns) (m u w v : ℕ) → arcs_of (with_need_at c m u w) (m + 1) v ≡ (arcs_of c m v ++ cond (eqb u v) ((2 * m) ∷ []) []) ++ cond (eqb w v) ((2 * m + 1) ∷ []) []

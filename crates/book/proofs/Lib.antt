@@ -1,4 +1,5 @@
 -- The lemmas that the answers share.
+pub mod Changes
 pub mod Writes
 pub mod Counts
 pub mod Plans

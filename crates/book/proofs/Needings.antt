@@ -7,15 +7,16 @@ use Rattle.std.proofs.lemmas.List.{get_or-take, length-take-le}
 use Rattle.std.proofs.lemmas.List.Sums.{sum_by_more}
 use Rattle.std.proofs.lemmas.List.FromFn.{get_or-map-range_with_len}
 use Rattle.network.specs.Cuts.{sum_below}
-use Rattle.network.proofs.Sums.{sum_same}
+use Rattle.network.proofs.Sums.{sum_same, sum_at_most}
 use Rattle.book.specs.declared.open.OpenBook.{OpenBook}
 use Rattle.book.specs.declared.record.Record.{Record}
 use Rattle.book.specs.Books.{mate, no_amounts, binding, needs_of}
 use Rattle.book.specs.Needings.{need_noted, arc_counted, arc_written, need_written}
 use Rattle.book.specs.Plans.{total_earnings}
 use Rattle.book.specs.Tables.{Columns, columns, no_record, front, amounts_in, book_in}
-use Rattle.book.specs.Writes.{with_arc, with_arcs}
-use Rattle.book.specs.Refusals.{need_refusal, Needs}
+use Rattle.book.proofs.Changes.{with_arc, with_arcs}
+use Rattle.book.specs.Refusals.{need_refusal}
+use Rattle.book.specs.Accepted.{Needs}
 use Rattle.book.specs.Values.{open_of}
 use Rattle.book.specs.Calls.{unused, need_refused, Needed}
 use Rattle.book.proofs.Counts.{kept_at_most}
@@ -64,11 +65,6 @@ need_asked b u w {spare} {entries} is left =
     (cases_lt u n)
 
 -- What the counts may be.
-
-sum_at_most : (n k : ℕ) (f : ℕ → ℕ) → ((u : ℕ) → u < n → f u ≤ k) → sum_below n f ≤ k * n
-unfolding sum_below
-sum_at_most zero k f most = omega arith
-sum_at_most (suc n) k f most = grind (arith, sum_at_most n k f (λ u below. most u (omega arith)), most n (omega arith))
 
 -- the needs of at most 4,096 entries are at most 16,384, so a record has room to count its arcs
 pub countable : (b : OpenBook) (v : ℕ) → v < b.held.entries → (front b.held.table.now v).arcs < 65535

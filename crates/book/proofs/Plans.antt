@@ -2,24 +2,25 @@
 use Rattle.std.proofs.Common.{◌≡◌, ℕ, zero, suc, ◌+◌, ◌*◌, ◌/◌, ◌%◌, ◌<◌, ◌≤◌, true, false, cond, not, ◌&&◌, ltb, length, get_or, refl, subst, ⊎_elim, arith}
 use Rattle.std.proofs.lemmas.Bool.{cases_Bool, cases_eq, cases_lt, lt-ltb}
 use Rattle.std.proofs.lemmas.Bool.Decides.{nat_tests}
+use Rattle.std.specs.List.{AllByRecursion}
 use Rattle.std.proofs.ByRecursion.{All-get_or, All-from_get_or}
 use Rattle.network.specs.Nets.{Net}
 use Rattle.network.specs.Cuts.{Selection, sum_below, node_cost, leaves, arc_cost, cost, Cheapest, CheapestCost}
-use Rattle.network.proofs.Sums.{sum_zero, part_le_sum}
+use Rattle.network.proofs.Sums.{sum_zero, sum_at_most, part_le_sum}
 use Rattle.book.specs.Books.{Book, no_amounts, no_need, binding, network_of}
-use Rattle.book.specs.Plans.{Plan, total_earnings, earned, paid, SoundBook, PlansAreBest}
+use Rattle.book.specs.Plans.{Plan, total_earnings, earned, paid, BestPlans}
+
+-- a book within its bounds
+pub record SoundBook (b : Book) : Type 0 where
+  pub few : length b.entries ≤ 4096
+  pub small : AllByRecursion (λ x. (x.earning ≤ 1000000) × (x.cost ≤ 1000000)) b.entries
+  pub few_needs : length b.needs ≤ 16384
 
 -- two pairs of sums balance where the parts do
 sums_balance : (n : ℕ) (f g h k : ℕ → ℕ) → ((u : ℕ) → f u + g u ≡ h u + k u) → sum_below n f + sum_below n g ≡ sum_below n h + sum_below n k
 unfolding sum_below
 sums_balance zero f g h k same = refl
 sums_balance (suc n) f g h k same = omega (arith, sums_balance n f g h k same, same n)
-
--- a sum of n parts, none above a million, is at most n million
-sum_small : (n : ℕ) (f : ℕ → ℕ) → ((u : ℕ) → u < n → f u ≤ 1000000) → sum_below n f ≤ 1000000 * n
-unfolding sum_below
-sum_small zero f small = omega arith
-sum_small (suc n) f small = omega (arith, sum_small n f (λ u below. small u (omega arith)), small n (omega arith))
 
 -- what the arc along a need costs
 need_cost : (b : Book) (X : Selection) (i : ℕ) → i < length b.needs → arc_cost (network_of b) X (2 * i) ≡ cond (X (get_or b.needs i no_need).entry && not (X (get_or b.needs i no_need).needed)) binding 0
@@ -80,7 +81,7 @@ nothing_costs b =
 -- all entries of a sound book earn less than what can be sent along a need
 total_small : (b : Book) → SoundBook b → total_earnings b < binding
 total_small b sound =
-    let most = sum_small (length b.entries) (λ u. (get_or b.entries u no_amounts).earning) (λ u there. (All-get_or _ b.entries u no_amounts there sound.small).0) in
+    let most = sum_at_most (length b.entries) 1000000 (λ u. (get_or b.entries u no_amounts).earning) (λ u there. (All-get_or _ b.entries u no_amounts there sound.small).0) in
     omega arith
 
 -- a selection that breaks a need pays for the need's arc
@@ -112,7 +113,7 @@ greatest_cheapest b X sound plan greatest Y = ⊎_elim
     among_plans Y other = omega (arith, plan_costs b X plan, plan_costs b Y other, greatest Y other)
 
 -- the cheapest selections are the plans of the greatest net
-pub plans_are_best : PlansAreBest
+pub plans_are_best : (b : Book) → SoundBook b → BestPlans b
 plans_are_best b sound = record {
   plans = λ X. cheapest_plan b X sound;
   costs = plan_costs b;

@@ -17,7 +17,7 @@ use Rattle.book.specs.Books.{amount, mate, binding}
 use Rattle.book.specs.Records.{amount_of, with_amount, with_residual}
 use Rattle.book.specs.Tables.{Columns, columns, front, back, amounts_in, codes_from, arcs_of, network_in, SmallAmounts, HeadsThere, SmallPairs, Indexed, IndexInside}
 use Rattle.book.specs.Values.{sealed_table, sealed_value}
-use Rattle.book.specs.Writes.{with_amount_at, with_moved}
+use Rattle.book.proofs.Changes.{with_amount_at, with_moved}
 use Rattle.book.proofs.Keeping.{mate_below}
 use Rattle.book.proofs.Writes.{columns_amount, moved_at, before_raised, columns_moved}
 

@@ -9,7 +9,8 @@ use Rattle.network.specs.Nets.{at}
 use Rattle.book.specs.declared.record.Record.{Record}
 use Rattle.book.specs.Records.{as_entry, as_arc, needing, with_arc_more, with_amount, with_residual, with_first, with_code}
 use Rattle.book.specs.Tables.{Columns, no_record, front, back, columns}
-use Rattle.book.specs.Writes.{with_entry_at, with_arc, with_needed, with_arcs, with_amount_at, with_residual_at, with_moved, with_index}
+use Rattle.book.proofs.Changes.{with_entry_at, with_arc, with_needed, with_arcs, with_amount_at, with_residual_at, with_moved}
+use Rattle.book.specs.Indexes.{with_index}
 
 pub front_set : (table : List Record) (i : ℕ) (r : Record) (k : ℕ) → i < length table → front (set table i r) k ≡ at (front table) i r k
 front_set table i r k h = grind (arith, nat_tests, get_or-set_same, get_or-set_other)

@@ -52,12 +52,16 @@ no_need = record { entry = 0; needed = 0 }
 abbrev pub mate : ℕ → ℕ
 mate a = cond (a % 2 == 0) (a + 1) (a - 1)
 
--- the graph of n nodes and m pairs of arcs, by the heads of the arcs: the tail of an arc is the head of its reverse, and a node's
--- arcs stand in order of their codes
+-- the arcs of a node among m pairs, by the heads of the arcs: the tail of an arc is the head of its reverse, and they stand in order of
+-- their codes
+abbrev pub arcs_from : ℕ → (ℕ → ℕ) → ℕ → List ℕ
+arcs_from m head u = filter (λ a. nat_eq (head (mate a)) u) (range_with_len 0 (2 * m))
+
+-- the graph of n nodes and m pairs of arcs, by the heads of the arcs
 abbrev pub paired : ℕ → ℕ → (ℕ → ℕ) → Graph
 paired n m head = record {
   nodes = n;
-  arcs = λ u. filter (λ a. nat_eq (head (mate a)) u) (range_with_len 0 (2 * m));
+  arcs = arcs_from m head;
   ends = λ a. cond (nat_lt a (2 * m)) (Some (record { tail = head (mate a); head = head a; reverse = mate a })) None;
 }
 

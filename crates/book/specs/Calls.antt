@@ -1,4 +1,4 @@
--- What the calls on an open book answer, and what they leave of its table and of the book.
+-- What the calls on a book answer, and what they leave of its table and of the book.
 use Rattle.std.specs.Prelude.{◌≡◌, ℕ, ◌+◌, ◌-◌, ◌*◌, ◌<◌, ◌≤◌, List, length, Some, None, Ok, Err, Option, Result}
 use Rattle.std.specs.Borrow.{MutBor}
 use Rattle.book.specs.declared.record.Record.{Record}
@@ -6,6 +6,7 @@ use Rattle.book.specs.declared.refusal.EnterRefusal.{EnterRefusal}
 use Rattle.book.specs.declared.refusal.NeedRefusal.{NeedRefusal}
 use Rattle.network.specs.Nets.{Net, Lawful}
 use Rattle.book.specs.Books.{Book, empty, with_entry, with_need, needs_of, network_of}
+use Rattle.book.specs.Plans.{BestPlans}
 use Rattle.book.specs.Tables.{front}
 use Rattle.book.specs.Refusals.{enter_refusal, need_refusal}
 
@@ -21,6 +22,9 @@ new_book table = record { table = table; book = empty }
 -- a sealed book as it stands: the table that it borrows, and what it is as a network
 pub record Shut : Type 0 where
   pub table : MutBor (List Record)
+  -- how many entries and needs it has
+  pub entries : ℕ
+  pub needs : ℕ
   pub net : Net
 
 -- an entry uses one record, and a need two
@@ -30,7 +34,7 @@ used b = length b.entries + 2 * length b.needs
 abbrev pub unused : Open → ℕ
 unused s = length s.table.now - used s.book
 
--- entries use records from the front of the table, needs from its end: a record between them is unused
+-- entries use records from the front of a table, needs from its end: in one of this size, n entries and m needs leave record k unused
 abbrev pub Unused : ℕ → ℕ → ℕ → ℕ → Type 0
 Unused size n m k = (n ≤ k) × (k + 2 * m < size)
 
@@ -38,10 +42,14 @@ Unused size n m k = (n ≤ k) × (k + 2 * m < size)
 abbrev pub Untouched : ℕ → ℕ → List Record → List Record → Type 0
 Untouched n m before after = (length after ≡ length before) × ((k : ℕ) → Unused (length after) n m k → front after k ≡ front before k)
 
--- the table is borrowed by the same borrow, told by its name, and the records that the book b does not use are as they were
-pub record Spared (b : Book) (before after : MutBor (List Record)) : Type 0 where
+-- it is the same borrow of a table, told by its name, and the records that n entries and m needs do not use are as they were
+pub record SparedBy (n m : ℕ) (before after : MutBor (List Record)) : Type 0 where
   pub same_table : after.ghost_name ≡ before.ghost_name
-  pub untouched : Untouched (length b.entries) (length b.needs) before.now after.now
+  pub untouched : Untouched n m before.now after.now
+
+-- and so with those that the book b does not use
+abbrev pub Spared : Book → MutBor (List Record) → MutBor (List Record) → Type 0
+Spared b before after = SparedBy (length b.entries) (length b.needs) before after
 
 abbrev pub enter_refused : Open → ℕ → ℕ → Option EnterRefusal
 enter_refused s x y = enter_refusal x y (length s.book.entries) (unused s)
@@ -59,8 +67,17 @@ abbrev pub Needed : Open → ℕ → ℕ → Result (Unit {0}) NeedRefusal → O
 Needed s u w (Err e) t = (need_refused s u w ≡ Some e) × (t ≡ s)
 Needed s u w (Ok _) t = (need_refused s u w ≡ None) × (t.book ≡ with_need s.book u w) × Spared t.book s.table t.table
 
--- the book is sealed: what stands is the network of the book, which keeps the laws
+-- the book s is sealed, and t stands: the network of the book, which keeps the laws, and whose cheapest selections are its best plans
 pub record Sealed (s : Open) (t : Shut) : Type 0 where
+  pub entries : t.entries ≡ length s.book.entries
+  pub needs : t.needs ≡ length s.book.needs
   pub network : t.net ≡ network_of s.book
   pub lawful : Lawful (network_of s.book)
+  pub best : BestPlans s.book
   pub spared : Spared s.book s.table t.table
+
+-- what changes of the network keep of a sealed book: how many entries and needs there are, and the records that these do not use
+pub record StillSealed (s t : Shut) : Type 0 where
+  pub entries : t.entries ≡ s.entries
+  pub needs : t.needs ≡ s.needs
+  pub spared : SparedBy s.entries s.needs s.table t.table

@@ -1,12 +1,15 @@
--- The network that a table tells keeps the laws of a network. Assumes nothing.
+-- The network that a table tells keeps the laws of a network, and what is spared twice is spared. Assumes nothing.
 use Rattle.std.specs.Prelude.{◌≡◌, ℕ, zero, suc, ◌+◌, ◌*◌, ◌/◌, ◌%◌, ◌^◌, ◌<◌, ◌≤◌, Bool, true, false, cond, ◌⊎◌, List, ◌∷◌, Some, filter, ◌≢◌, nat_eq, nat_lt, refl}
 use Rattle.std.proofs.Common.{sym, ap, ◌∙◌, subst₂, inl, inr, ⊎_elim, arith}
 use Rattle.std.proofs.lemmas.Bool.{ltb-true, lt-ltb, eqb-true, eq-eqb, ne_eqb, cases_eq}
 use Rattle.std.proofs.lemmas.Option.{cond_some, same_Some}
+use Rattle.std.specs.Borrow.{MutBor}
 use Rattle.std.specs.List.{slice_get, range_with_len}
 use Rattle.network.specs.declared.terminal.Terminal.TheVariants.{Source, Sink}
 use Rattle.network.specs.Nets.{Ends, LawfulGraph, Lawful, Distinct, reversed}
+use Rattle.book.specs.declared.record.Record.{Record}
 use Rattle.book.specs.Books.{mate, amount, paired}
+use Rattle.book.specs.Calls.{SparedBy}
 use Rattle.book.specs.Tables.{Columns, amounts_in, network_in, SmallAmounts, HeadsThere, SmallPairs}
 
 -- what stands at a place of a list that may have y in front
@@ -103,3 +106,13 @@ lawful c n m few few_needs amounts heads pairs =
       small = λ t u h. rw (lt-ltb u n h) (elim t as (λ t. amount t (amounts_in c u) ≤ 2 ^ 40) [ Source ↦ omega (arith, (amounts u h).0) | Sink ↦ omega (arith, (amounts u h).1) ]);
       small_pair = each_arc n m c.head (λ a e. v.residual a + v.residual e.reverse ≤ 2 ^ 40) pair (λ i h. omega (arith, pair i h));
     }
+
+-- records that n entries and m needs do not use are as they were, and then those that as many or more do not use
+pub spared_then : {n m p q : ℕ} {a b c : MutBor (List Record)} → n ≤ p → m ≤ q → SparedBy n m a b → SparedBy p q b c → SparedBy p q a c
+spared_then {n} {m} {p} {q} entries needs first second = record {
+  same_table = second.same_table ∙ first.same_table;
+  untouched = (
+    second.untouched.0 ∙ first.untouched.0,
+    λ k unused. second.untouched.1 k unused ∙ first.untouched.1 k (omega (arith, unused.0), omega (arith, unused.1, second.untouched.0)),
+  );
+}

@@ -1,12 +1,13 @@
--- What a reader of the contracts must believe of the order book.
+-- What the public calls promise.
 pub mod Books
-pub mod Refusals
-pub mod Records
-pub mod Tables
-pub mod Writes
-pub mod Needings
-pub mod Calls
 pub mod Plans
+pub mod Refusals
+pub mod Tables
+pub mod Calls
+pub mod Values
+-- What inner functions agree on, and that the laws hold.
+pub mod Records
+pub mod Accepted
+pub mod Needings
 pub mod Indexes
 pub mod Laws
-pub mod Values

@@ -20,12 +20,6 @@ earned b X = sum_below (length b.entries) (λ u. cond (X u) (slice_index_or b.en
 abbrev pub paid : Book → Selection → ℕ
 paid b X = sum_below (length b.entries) (λ u. cond (X u) (slice_index_or b.entries u no_amounts).cost 0)
 
--- a book within its bounds
-pub record SoundBook (b : Book) : Type 0 where
-  pub few : length b.entries ≤ 4096
-  pub small : AllByRecursion (λ x. (x.earning ≤ 1000000) × (x.cost ≤ 1000000)) b.entries
-  pub few_needs : length b.needs ≤ 16384
-
 -- the net of a plan is what it earns less what it pays; the cheapest selections are the plans of the greatest net
 pub record BestPlans (b : Book) : Type 0 where
   -- a cheapest selection is a plan
@@ -36,7 +30,3 @@ pub record BestPlans (b : Book) : Type 0 where
   pub greatest : (X Y : Selection) → Cheapest (network_of b) X → Plan b Y → earned b Y + paid b X ≤ earned b X + paid b Y
   -- a plan of the greatest net is cheapest
   pub only : (X : Selection) → Plan b X → ((Y : Selection) → Plan b Y → earned b Y + paid b X ≤ earned b X + paid b Y) → Cheapest (network_of b) X
-
--- the book's theorem: for every sound book, the cheapest selections are the best plans
-abbrev pub PlansAreBest : Type 0
-PlansAreBest = (b : Book) → SoundBook b → BestPlans b

@@ -6,19 +6,19 @@ use Rattle.book.specs.declared.record.Record.{Record}
 
 -- an entry of these amounts, without needs
 abbrev pub as_entry : Record → ℕ → ℕ → Record
-as_entry r x y = record { earning = x; cost = y; needed = 0 ∷ 0 ∷ 0 ∷ 0 ∷ []; needs = 0; arcs = 0; first = r.first; head = r.head; residual = r.residual; code = r.code }
+as_entry r x y = record r { earning = x; cost = y; needed = 0 ∷ 0 ∷ 0 ∷ 0 ∷ []; needs = 0; arcs = 0 }
 
 -- an arc that leads to h
 abbrev pub as_arc : Record → ℕ → ℕ → Record
-as_arc r h x = record { earning = r.earning; cost = r.cost; needed = r.needed; needs = r.needs; arcs = r.arcs; first = r.first; head = h; residual = x; code = r.code }
+as_arc r h x = record r { head = h; residual = x }
 
 -- an entry that needs one more, with the arc to it
 abbrev pub needing : Record → ℕ → Record
-needing r w = record { earning = r.earning; cost = r.cost; needed = slice_set r.needed r.needs w; needs = r.needs + 1; arcs = r.arcs + 1; first = r.first; head = r.head; residual = r.residual; code = r.code }
+needing r w = record r { needed = slice_set r.needed r.needs w; needs = r.needs + 1; arcs = r.arcs + 1 }
 
 -- an entry that one arc more leaves
 abbrev pub with_arc_more : Record → Record
-with_arc_more r = record { earning = r.earning; cost = r.cost; needed = r.needed; needs = r.needs; arcs = r.arcs + 1; first = r.first; head = r.head; residual = r.residual; code = r.code }
+with_arc_more r = record r { arcs = r.arcs + 1 }
 
 -- what an entry has at a terminal
 abbrev pub amount_of : Record → Terminal → ℕ
@@ -27,17 +27,17 @@ amount_of r Sink = r.cost
 
 -- an entry that has another amount there
 abbrev pub with_amount : Record → Terminal → ℕ → Record
-with_amount r Source x = record { earning = x; cost = r.cost; needed = r.needed; needs = r.needs; arcs = r.arcs; first = r.first; head = r.head; residual = r.residual; code = r.code }
-with_amount r Sink x = record { earning = r.earning; cost = x; needed = r.needed; needs = r.needs; arcs = r.arcs; first = r.first; head = r.head; residual = r.residual; code = r.code }
+with_amount r Source x = record r { earning = x }
+with_amount r Sink x = record r { cost = x }
 
 -- an arc of another residual
 abbrev pub with_residual : Record → ℕ → Record
-with_residual r x = record { earning = r.earning; cost = r.cost; needed = r.needed; needs = r.needs; arcs = r.arcs; first = r.first; head = r.head; residual = x; code = r.code }
+with_residual r x = record r { residual = x }
 
 -- an entry whose arcs begin at another place of the index
 abbrev pub with_first : Record → ℕ → Record
-with_first r k = record { earning = r.earning; cost = r.cost; needed = r.needed; needs = r.needs; arcs = r.arcs; first = k; head = r.head; residual = r.residual; code = r.code }
+with_first r k = record r { first = k }
 
 -- a place of the index with another code
 abbrev pub with_code : Record → ℕ → Record
-with_code r a = record { earning = r.earning; cost = r.cost; needed = r.needed; needs = r.needs; arcs = r.arcs; first = r.first; head = r.head; residual = r.residual; code = a }
+with_code r a = record r { code = a }

@@ -1,5 +1,5 @@
 -- When an open book refuses an entry or a need, and the numbers of the refusals.
-use Rattle.std.specs.Prelude.{◌≡◌, ℕ, ◌<◌, ◌≤◌, ◌≢◌, Bool, false, cond, ◌||◌, List, length, Some, None, Option, ◌==◌, nat_le, nat_lt}
+use Rattle.std.specs.Prelude.{ℕ, Bool, cond, ◌||◌, List, length, Some, None, Option, ◌==◌, nat_le, nat_lt}
 use Rattle.std.specs.List.{list_any}
 use Rattle.book.specs.declared.refusal.EnterRefusal.{EnterRefusal}
 use Rattle.book.specs.declared.refusal.EnterRefusal.TheVariants.{LargeEarning, LargeCost, ManyEntries, NoRecord}
@@ -25,13 +25,6 @@ abbrev pub enter_refusal : ℕ → ℕ → ℕ → ℕ → Option EnterRefusal
 enter_refusal earning cost entries unused =
     cond (nat_lt 1000000 earning) (Some LargeEarning) (cond (nat_lt 1000000 cost) (Some LargeCost) (cond (nat_le 4096 entries) (Some ManyEntries) (cond (nat_lt unused 1) (Some NoRecord) None)))
 
--- an entry that no question refuses
-pub record Enters (earning cost entries unused : ℕ) : Type 0 where
-  pub small_earning : earning ≤ 1000000
-  pub small_cost : cost ≤ 1000000
-  pub few : entries < 4096
-  pub room : 0 < unused
-
 -- whether x is one of the numbers
 abbrev pub among : ℕ → List ℕ → Bool
 among x ys = list_any (λ y. y == x) ys
@@ -40,12 +33,3 @@ among x ys = list_any (λ y. y == x) ys
 abbrev pub need_refusal : ℕ → ℕ → List ℕ → ℕ → ℕ → Option NeedRefusal
 need_refusal u w already entries unused =
     cond (nat_le entries u || nat_le entries w) (Some NoEntry) (cond (u == w) (Some Itself) (cond (among w already) (Some Repeated) (cond (nat_le 4 (length already)) (Some ManyNeeds) (cond (nat_lt unused 2) (Some FewRecords) None))))
-
--- a need that no question refuses
-pub record Needs (u w : ℕ) (already : List ℕ) (entries unused : ℕ) : Type 0 where
-  pub there : u < entries
-  pub needed_there : w < entries
-  pub others : u ≢ w
-  pub fresh : among w already ≡ false
-  pub few : length already < 4
-  pub room : 2 ≤ unused

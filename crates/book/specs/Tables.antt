@@ -4,7 +4,7 @@ use Rattle.std.specs.List.{range_with_len}
 use Rattle.network.specs.Nets.{Net}
 use Rattle.network.specs.Cuts.{sum_below}
 use Rattle.book.specs.declared.record.Record.{Record}
-use Rattle.book.specs.Books.{Amounts, Need, Book, needs_of, amount, paired, binding}
+use Rattle.book.specs.Books.{Amounts, Need, Book, needs_of, amount, arcs_from, paired, binding}
 
 -- the record past the end, which nothing reads
 abbrev pub no_record : Record
@@ -68,7 +68,7 @@ network_in c n m = record {
 
 -- the arcs of u, by their codes
 abbrev pub arcs_of : Columns → ℕ → ℕ → List ℕ
-arcs_of c m u = (paired 0 m c.head).arcs u
+arcs_of c m u = arcs_from m c.head u
 
 -- What holds of a table with n entries and m needs.
 

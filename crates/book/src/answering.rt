@@ -2,7 +2,7 @@
 ghost use Rattle.std.specs.Prelude.{◌≡◌, Ok};
 ghost use Rattle.network.specs.Answers.{at_arc, at_node};
 ghost use Rattle.book.specs.Tables.{front};
-ghost use Rattle.book.specs.Values.{sealed_of, sealed_table, sealed_value, sealed_lawful, SealedKeeps, sealed_keeping};
+ghost use Rattle.book.specs.Values.{sealed_of, sealed_table, sealed_value, sealed_lawful, sealed_keeps, sealed_keeping};
 
 use super::held::mate;
 use super::record::Record;
@@ -14,7 +14,7 @@ impl<'a> SealedBook<'a> {
     fn entry(&self, node: usize) -> Result<Record, NetworkRefusal>
         ensures { result ≡ at_node (sealed_value self.now) node (front (sealed_table self.now) node) }
     {
-        let entries = &self.held.table[..self.held.entries];
+        let entries = self.held.records();
         entries.get(node).copied().ok_or(NetworkRefusal::NoNode)
     }
 
@@ -41,7 +41,7 @@ impl<'a> Network for SealedBook<'a> {
 
     ghost lawful = { sealed_lawful };
 
-    ghost keeps = { SealedKeeps };
+    ghost keeps = { sealed_keeps };
 
     ghost keeping = { sealed_keeping };
 
@@ -77,17 +77,19 @@ impl<'a> Network for SealedBook<'a> {
 
     fn take(&mut self, terminal: Terminal, node: usize, amount: u64) -> Result<(), NetworkRefusal> {
         let taken = self.entry(node)?.taken(terminal, amount);
+        let left = taken.ok_or(NetworkRefusal::AboveResidual)?;
         let held = &mut self.held;
-        held.table[node] = taken.ok_or(NetworkRefusal::AboveResidual)?;
+        held.table[node] = left;
         Ok(())
     }
 
     fn shift(&mut self, arc: usize, amount: u64) -> Result<(), NetworkRefusal> {
         let reverse = self.reverse(arc)?;
+        let left = self.held.arc(arc).residual.checked_sub(amount);
+        let left = left.ok_or(NetworkRefusal::AboveResidual)?;
         let held = &mut self.held;
         let last = held.table.len() - 1;
-        let left = held.table[last - arc].residual.checked_sub(amount);
-        held.table[last - arc].residual = left.ok_or(NetworkRefusal::AboveResidual)?;
+        held.table[last - arc].residual = left;
         held.table[last - reverse].residual += amount;
         Ok(())
     }

@@ -47,7 +47,7 @@ impl<'a> OpenBook<'a> {
     pub fn total_earnings(&self) -> u64
         ensures { result ≡ total_earnings (open_of self.now).book }
     {
-        earnings(self.entries())
+        earnings(self.held.records())
     }
 
     // How many records the table has.
@@ -63,13 +63,6 @@ impl<'a> OpenBook<'a> {
         ensures rest { result ≡ length self.now.held.table.now - self.now.held.entries - 2 * self.now.held.needs }
     {
         self.record_count() - self.held.entries - 2 * self.held.needs
-    }
-
-    // The records of the entries.
-    fn entries(&self) -> &[Record]
-        ensures { result.now ≡ take self.now.held.entries self.now.held.table.now }
-    {
-        &self.held.table[..self.held.entries]
     }
 
     // Enters what an entry earns and costs, and answers its number.
@@ -88,7 +81,7 @@ impl<'a> OpenBook<'a> {
     pub fn need(&mut self, entry: usize, needed: usize) -> Result<(), NeedRefusal>
         ensures { Needed (open_of self.old) entry needed result (open_of self.new) }
     {
-        NeedRefusal::check(entry, needed, self.entries(), self.unused())?;
+        NeedRefusal::check(entry, needed, self.held.records(), self.unused())?;
         let held = &mut self.held;
         write_need(held.table, held.needs, entry as u16, needed as u16);
         held.needs += 1;

@@ -1,5 +1,5 @@
 // What an open book and a sealed one hold alike: a borrowed table, with entries from its front and the arcs of needs from its end.
-ghost use Rattle.std.specs.Prelude.{◌≡◌, ◌+◌, ◌*◌, ◌<◌, ◌≤◌, length};
+ghost use Rattle.std.specs.Prelude.{◌≡◌, ◌+◌, ◌*◌, ◌<◌, ◌≤◌, length, take};
 ghost use Rattle.book.specs.Books.{mate};
 ghost use Rattle.book.specs.Tables.{columns, back, SmallAmounts, HeadsThere};
 
@@ -23,6 +23,13 @@ impl<'a> Held<'a> {
         ensures { result ≡ self.entry.table }
     {
         self.table
+    }
+
+    // The records of the entries.
+    pub(crate) fn records(&self) -> &[Record]
+        ensures { result.now ≡ take self.now.entries self.now.table.now }
+    {
+        &self.table[..self.entries]
     }
 
     // The record of an arc, which is number `arc` from the table's end.

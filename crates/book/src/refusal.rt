@@ -1,7 +1,8 @@
 // Why an open book refuses an entry or a need, and the number of each refusal.
 ghost use Rattle.std.specs.Prelude.{◌≡◌, ◌≤◌, length, OnOk};
 ghost use Rattle.std.specs.Result.{result_err};
-ghost use Rattle.book.specs.Refusals.{enter_question, enter_refusal, Enters, need_question, need_refusal, Needs};
+ghost use Rattle.book.specs.Refusals.{enter_question, enter_refusal, need_question, need_refusal};
+ghost use Rattle.book.specs.Accepted.{Enters, Needs};
 ghost use Rattle.book.specs.Tables.{columns, AtMostFour};
 
 use super::record::Record;

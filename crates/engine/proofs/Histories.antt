@@ -9,6 +9,7 @@ use Rattle.book.specs.declared.refusal.EnterRefusal.{EnterRefusal}
 use Rattle.book.specs.declared.refusal.NeedRefusal.{NeedRefusal}
 use Rattle.book.specs.Books.{Book, with_entry, with_need, network_of}
 use Rattle.book.specs.Calls.{Open, Entered, Needed}
+use Rattle.book.specs.Plans.{BestPlans}
 use Rattle.sheet.specs.declared.Counts.{Counts}
 use Rattle.sheet.proofs.Sheets.{one_list}
 use Rattle.filing.specs.declared.refusal.LoadRefusal.{LoadRefusal}
@@ -47,6 +48,10 @@ handled_runs b _ _ _ (seal {s = s} {t = t} opened sealed) =
     subst (λ v. Runs (network_of b) v 0 0) (sym (sealed.network ∙ ap network_of is)) (none (rw (← is) sealed.lawful))
 handled_runs b x _ _ (run {w = w} {g = g} {k = k} before lent r after ran) = then (handled_runs b w g k before) lent r after ran
 
+handled_best : (b : Book) (w : Net) (g k : ℕ) → Handled b w g k → BestPlans b
+handled_best b _ _ _ (seal {s = s} opened sealed) = subst BestPlans (given_is_held s b opened) sealed.best
+handled_best b _ _ _ (run {w = w} {g = g} {k = k} before lent r after ran) = handled_best b w g k before
+
 -- so what runs promise of any network is promised of it
 pub book_promised : (w : Net) (r : Result Report RunRefusal) (x : Net) (after : Lent) → Promise w r x after → BookPromise w r x after
-book_promised w r x after promise b g k handled = promise (network_of b) g k (handled_runs b w g k handled)
+book_promised w r x after promise b g k handled = (promise (network_of b) g k (handled_runs b w g k handled), handled_best b w g k handled)

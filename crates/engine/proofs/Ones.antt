@@ -24,11 +24,6 @@ use Rattle.engine.specs.Answers.{Answer, AllMarked, GreatestNet, Right}
 use Rattle.engine.specs.Plans.{Planned, ThePlan}
 use Rattle.engine.proofs.Rights.{one_right, greatest_net}
 
-pub too_long : (bs : List ℕ) → 8192 < length bs → (s : Result Answer PlanRefusal) → Planned bs s → s ≡ Err TooLong
-too_long bs long (Ok a) (fits, _, _, _, _) = absurd (omega arith)
-too_long bs long (Err TooLong) h = refl
-too_long bs long (Err (Load x)) (fits, _) = absurd (omega arith)
-
 refused_sheet : (bs : List ℕ) (x : SheetRefusal) → length bs ≤ 8192 → Answers bs (Err x) → (s : Result Answer PlanRefusal) → Planned bs s → s ≡ Err (Load (Sheet x))
 refused_sheet bs x short refused (Ok a) (_, es, sheet, _, _) = absurd (no_list bs x es refused sheet)
 refused_sheet bs x short refused (Err TooLong) long = absurd (omega arith)
@@ -51,10 +46,6 @@ planned bs es a short sheet room l right (Err TooLong) long = absurd (omega arit
 planned bs es a short sheet room l right (Err (Load HasEntries)) (_, never) = absurd never
 planned bs es a short sheet room l right (Err (Load (Sheet x))) (_, refused) = absurd (no_list bs x es refused sheet)
 planned bs es a short sheet room l right (Err (Load ShortTable)) (_, over) = let same = one_list bs es over.0 sheet over.1 in absurd (omega (arith, over.2, ap (λ xs. used (book_of xs)) same))
-
--- the answer to an input that is too long
-pub the_too_long : (bs : List ℕ) → 8192 < length bs → ThePlan bs (Err TooLong)
-the_too_long bs long = record { answers = long; only = too_long bs long }
 
 -- the answer to one that is not loaded, into the new book s over 2,048 records
 pub the_refusal : (bs : List ℕ) (s t : Open) (x : LoadRefusal) → length bs ≤ 8192 → s.book ≡ empty → length s.table.now ≡ 2048 → Loaded s bs (Err x) t → ThePlan bs (Err (Load x))

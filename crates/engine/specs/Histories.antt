@@ -10,6 +10,7 @@ use Rattle.book.specs.declared.refusal.NeedRefusal.{NeedRefusal}
 use Rattle.book.specs.declared.record.Record.{Record}
 use Rattle.book.specs.Books.{Book, empty, with_entry, with_need, network_of}
 use Rattle.book.specs.Calls.{Open, Shut, new_book, Entered, Needed, Sealed}
+use Rattle.book.specs.Plans.{BestPlans}
 use Rattle.sheet.specs.declared.Counts.{Counts}
 use Rattle.sheet.specs.Format.{Entry}
 use Rattle.sheet.specs.Answers.{SheetOf}
@@ -38,13 +39,13 @@ pub data Opened : Open → Book → Type 0 where
   need : {s t : Open} {b : Book} → Opened s b → (u w : ℕ) (r : Result (Unit {0}) NeedRefusal) → Needed s u w r t → Opened t (need_given b u w r)
   load : {s t : Open} {b c : Book} → Opened s b → (bs : List ℕ) (r : Result Counts LoadRefusal) → Loaded s bs r t → SheetGiven b bs r c → Opened t c
 
--- and then it was sealed and run, each run with whatever it was lent, which led to the value w; all that the runs gained, and all
--- the paths that they counted
+-- and then it was sealed and run, each run with whatever it was lent, which led to the value w; g is all that the runs gained, and k how
+-- many paths they counted
 pub data Handled (b : Book) : Net → ℕ → ℕ → Type 0 where
   seal : {s : Open} {t : Shut} → Opened s b → Sealed s t → Handled b t.net 0 0
   run : {w x : Net} {g k : ℕ} → Handled b w g k → (before : Lent) (r : Result Report RunRefusal) (after : Lent) → Run w before r x after → Handled b x (g + gained r) (k + counted r)
 
--- for every list of calls that led to the value before this run: what runs promise of the network of exactly what the accepted
--- calls gave, whose cheapest selections are the best plans
+-- for every list of calls that led to the value before this run: what runs promise holds of the network of exactly what the accepted
+-- calls gave, and its cheapest selections are the best plans
 abbrev pub BookPromise : Net → Result Report RunRefusal → Net → Lent → Type 0
-BookPromise w r x after = (b : Book) (g k : ℕ) → Handled b w g k → Promised (network_of b) (g + gained r) (k + counted r) r x after
+BookPromise w r x after = (b : Book) (g k : ℕ) → Handled b w g k → Promised (network_of b) (g + gained r) (k + counted r) r x after × BestPlans b

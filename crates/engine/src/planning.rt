@@ -51,13 +51,13 @@ pub fn plan(heap: Global, input: &[u8]) -> Result<Result<Plan, PlanRefusal>, All
 
 // What the cheapest selections of a network cost, and what they say of each node.
 #[derive(PartialEq, Eq, Debug, Drop)]
-pub(crate) struct Cut {
-    pub(crate) cost: u64,
-    pub(crate) marks: Vec<Mark>,
+struct Cut {
+    cost: u64,
+    marks: Vec<Mark>,
 }
 
 // The cheapest selections of a sealed book.
-pub(crate) fn cheapest_cut(heap: Global, book: &mut SealedBook) -> Result<Cut, AllocError>
+fn cheapest_cut(heap: Global, book: &mut SealedBook) -> Result<Cut, AllocError>
     requires { (sealed_value book.old).graph.nodes + 2 ≤ 4096 }
     ensures { IfOk result (λ cut. CheapestCost (sealed_value book.old) cut.cost × AllMarked (sealed_value book.old) (vec_items cut.marks)) }
 {

@@ -1,8 +1,9 @@
 // Runs of a sealed book: one, and as many as it takes until one finishes.
-ghost use Rattle.std.specs.Prelude.{◌≡◌, ◌+◌, ◌≤◌, length};
+ghost use Rattle.std.specs.Prelude.{◌≡◌, ◌+◌, ◌≤◌, length, OnErr};
 ghost use Rattle.network.specs.Cuts.{CheapestCost};
 ghost use Rattle.search.specs.Runs.{MarksOf, Run};
-ghost use Rattle.book.specs.Values.{sealed_value, SealedKeeps};
+ghost use Rattle.book.specs.Calls.{StillSealed};
+ghost use Rattle.book.specs.Values.{sealed_of, sealed_value};
 ghost use Rattle.engine.specs.Histories.{BookPromise};
 
 use book::SealedBook;
@@ -17,7 +18,8 @@ pub fn run(
     marks: &mut [u8],
 ) -> Result<Report, RunRefusal>
     ensures ran { Run (sealed_value book.old) (record { work = work.old; trail = trail.old; marks = marks.old }) result (sealed_value book.new) (record { work = work.new; trail = trail.new; marks = marks.new }) }
-    ensures kept { SealedKeeps book.old book.new }
+    ensures kept { StillSealed (sealed_of book.old) (sealed_of book.new) }
+    ensures refused { OnErr result (book.new ≡ book.old) }
     ensures promise { BookPromise (sealed_value book.old) result (sealed_value book.new) (record { work = work.new; trail = trail.new; marks = marks.new }) }
 {
     search::run(book, work, trail, marks)

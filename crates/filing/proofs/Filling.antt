@@ -7,6 +7,7 @@ use Rattle.sheet.proofs.Sheets.{one_list}
 use Rattle.book.specs.Books.{Book, with_entry, with_need}
 use Rattle.book.specs.Calls.{Open, used, Spared, Entered, Needed}
 use Rattle.filing.specs.Books.{book_of}
+use Rattle.book.specs.Laws.{spared_then}
 use Rattle.filing.specs.Passes.{Fitting, Filled}
 
 -- a book is filled with what it holds
@@ -15,16 +16,7 @@ filled_none s = record { book = refl; spared = record { same_table = refl; untou
 
 -- filled with b and then with more
 pub filled_on : (b c : Book) (s m t : Open) → Filled b s m → Filled c m t → length b.entries ≤ length c.entries → length b.needs ≤ length c.needs → Filled c s t
-filled_on b c s m t first then entries needs = record {
-  book = then.book;
-  spared =
-      let old = first.spared.untouched in
-      let new = then.spared.untouched in
-      record {
-        same_table = then.spared.same_table ∙ first.spared.same_table;
-        untouched = (new.0 ∙ old.0, λ k free. new.1 k free ∙ old.1 k (omega (arith, free.0), omega (arith, free.1, new.0)));
-      };
-}
+filled_on b c s m t first then entries needs = record { book = then.book; spared = spared_then entries needs first.spared then.spared }
 
 pub filled_entry : (b : Book) (s t u : Open) (x y i : ℕ) → Filled b s t → Entered t x y (Ok i) u → Filled (with_entry b x y) s u
 filled_entry b s t u x y i f (none, number, book, spared) =

@@ -1,5 +1,5 @@
 -- The second pass of loading: the needs.
-use Rattle.std.proofs.Common.{◌≡◌, ℕ, zero, suc, ◌+◌, ◌-◌, ◌<◌, ◌≤◌, true, false, eqb, ◌≢◌, ◌==◌, List, [], ◌∷◌, ◌++◌, map, length, get_or, filter, take, Some, None, Ok, Err, Option, Result, sym, refl, ap, ◌∙◌, subst, add-zero, arith}
+use Rattle.std.proofs.Common.{◌≡◌, ℕ, zero, suc, ◌+◌, ◌-◌, ◌<◌, ◌≤◌, true, false, ◌≢◌, ◌==◌, List, [], ◌∷◌, ◌++◌, map, length, get_or, take, Some, None, Ok, Err, Option, Result, sym, refl, ap, ◌∙◌, subst, add-zero, arith}
 use Rattle.std.specs.List.{slice_get}
 use Rattle.std.specs.Option.{is_some}
 use Rattle.std.specs.Result.{is_ok}
@@ -7,7 +7,7 @@ use Rattle.std.proofs.ByRecursion.{All-get_or}
 use Rattle.std.proofs.lemmas.Bool.{eq-eqb, ne_eqb}
 use Rattle.std.proofs.lemmas.Bool.Decides.{nat_tests}
 use Rattle.std.proofs.lemmas.List.{append_assoc, append-nil, get_or-take, length-append, length-map, length-take-le, map-append, take_all, take_more}
-use Rattle.std.proofs.lemmas.List.Elements.{All-from_get_or, filter-append}
+use Rattle.std.proofs.lemmas.List.Elements.{All-from_get_or}
 use Rattle.std.proofs.lemmas.List.Folds.{list_any_none}
 use Rattle.std.proofs.lemmas.Option.{slice_get-get_or}
 use Rattle.sheet.specs.declared.records.Record.{Record}
@@ -18,19 +18,15 @@ use Rattle.sheet.specs.Places.{Cursor, start, entry_at, HandedOut, Handed}
 use Rattle.book.specs.declared.refusal.NeedRefusal.{NeedRefusal}
 use Rattle.book.specs.Books.{Need, Book, with_need, needs_of}
 use Rattle.book.specs.Calls.{Open, used, unused, need_refused, Needed}
-use Rattle.book.specs.Refusals.{among, need_refusal, Needs}
+use Rattle.book.specs.Refusals.{among, need_refusal}
+use Rattle.book.specs.Accepted.{Needs}
+use Rattle.book.proofs.Keeping.{needs_of_both}
 use Rattle.filing.specs.Books.{amounts_of, needs_by, needs_from, book_of}
 use Rattle.filing.specs.Passes.{entries_alone, Filled, NeedsFit, with_needs}
 use Rattle.filing.proofs.Standing.{no_entry, sound_at, Standing, standing_start, turn, at_end}
 use Rattle.filing.proofs.Filling.{filled_none, filled_on, filled_need}
 
 -- Lists of needs.
-
--- with more needs behind them, an entry needs what it needs among both
-needs_of_both : (u : ℕ) (ms ns : List Need) → needs_of u (ms ++ ns) ≡ needs_of u ms ++ needs_of u ns
-needs_of_both u ms ns =
-    let both = filter-append (λ (x : Need). eqb x.entry u) ms ns in
-    ap (map (λ (x : Need). x.needed)) both ∙ map-append (λ (x : Need). x.needed) (filter (λ (x : Need). eqb x.entry u) ms) (filter (λ (x : Need). eqb x.entry u) ns)
 
 needs_of_own : (u : ℕ) (ns : List ℕ) → needs_of u (needs_by u ns) ≡ ns
 needs_of_own u [] = refl

@@ -1,5 +1,6 @@
--- What a reader of the contracts must believe of loading.
+-- What the public calls promise.
 pub mod Refusals
 pub mod Books
 pub mod Loads
+-- What inner functions agree on.
 pub mod Passes

@@ -15,7 +15,7 @@ use super::refusal::LoadRefusal;
 use book::OpenBook;
 use sheet::{Counts, Reader, Record};
 
-// Fills a book with the entries and the needs of a sheet. A refusal leaves the book as it was.
+// Fills a book that has no entries with all that a sheet tells. A refusal leaves the book as it was.
 pub fn load(book: &mut OpenBook, sheet: &[u8]) -> Result<Counts, LoadRefusal>
     ensures loaded { Loaded (open_of book.old) sheet.now result (open_of book.new) }
     ensures only { (r : Outcome Counts LoadRefusal) (t : Open) → Loaded (open_of book.old) sheet.now r t → (r ≡ result) × (t.book ≡ (open_of book.new).book) }

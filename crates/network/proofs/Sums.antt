@@ -1,5 +1,5 @@
 -- Sums over the numbers below n.
-use Rattle.std.proofs.Common.{◌≡◌, ℕ, zero, suc, ◌+◌, ◌<◌, ◌≤◌, refl, ap, ⊎_elim, arith}
+use Rattle.std.proofs.Common.{◌≡◌, ℕ, zero, suc, ◌+◌, ◌*◌, ◌<◌, ◌≤◌, refl, ap, ⊎_elim, arith}
 use Rattle.std.proofs.lemmas.Bool.{cases_eq}
 use Rattle.network.specs.Cuts.{sum_below}
 
@@ -21,6 +21,12 @@ pub sum_zero : (n : ℕ) (f : ℕ → ℕ) → ((k : ℕ) → k < n → f k ≡ 
 unfolding sum_below
 sum_zero zero f none = refl
 sum_zero (suc n) f none = omega (arith, sum_zero n f (λ k below. none k (omega arith)), none n (omega arith))
+
+-- a sum of n parts, none above k, is at most k times n
+pub sum_at_most : (n k : ℕ) (f : ℕ → ℕ) → ((u : ℕ) → u < n → f u ≤ k) → sum_below n f ≤ k * n
+unfolding sum_below
+sum_at_most zero k f most = omega arith
+sum_at_most (suc n) k f most = grind (arith, sum_at_most n k f (λ u below. most u (omega arith)), most n (omega arith))
 
 -- each number's part is at most the sum
 pub part_le_sum : (n k : ℕ) (f : ℕ → ℕ) → k < n → f k ≤ sum_below n f

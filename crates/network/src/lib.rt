@@ -1,7 +1,7 @@
 // What a network is to those who search it: a trait with a meaning and laws.
 #![tactic(auto)]
 
-ghost use Rattle.std.specs.Prelude.{◌≡◌};
+ghost use Rattle.std.specs.Prelude.{◌≡◌, OnErr};
 ghost use Rattle.network.specs.Nets.{Net, Lawful};
 ghost use Rattle.network.specs.Keeping.{Keeping};
 ghost use Rattle.network.specs.Answers.{terminal_answer, place_answer, ends_answer, residual_answer, take_answer, after_take, shift_answer, after_shift};
@@ -23,7 +23,7 @@ pub trait Network {
     // its laws, which each `impl` proves
     ghost lawful: { (x : Self) → Lawful (value x) };
 
-    // what it keeps besides its value: `keeps x y` says that y still holds whatever x held that its value does not tell
+    // what each `impl` promises to keep besides its value: `keeps x y` says it of x and a later state y
     ghost keeps: { Self → Self → Type 0 };
 
     // staying as it is keeps that, and so does one change after another, as each `impl` proves
@@ -51,11 +51,13 @@ pub trait Network {
     fn take(&mut self, terminal: Terminal, node: usize, amount: u64) -> Result<(), NetworkRefusal>
         ensures answer { result ≡ take_answer (value self.old) terminal node amount }
         ensures after { value self.new ≡ after_take (value self.old) terminal node amount }
-        ensures kept { keeps self.old self.new };
+        ensures kept { keeps self.old self.new }
+        ensures refused { OnErr result (self.new ≡ self.old) };
 
     // Lowers the arc's residual and raises its reverse's by the same.
     fn shift(&mut self, arc: usize, amount: u64) -> Result<(), NetworkRefusal>
         ensures answer { result ≡ shift_answer (value self.old) arc amount }
         ensures after { value self.new ≡ after_shift (value self.old) arc amount }
-        ensures kept { keeps self.old self.new };
+        ensures kept { keeps self.old self.new }
+        ensures refused { OnErr result (self.new ≡ self.old) };
 }

@@ -1,12 +1,12 @@
 -- One path more in the log.
-use Rattle.std.proofs.Common.{◌≡◌, ℕ, zero, suc, ◌+◌, ◌*◌, ◌^◌, ◌<◌, ◌≤◌, Bool, false, cond, List, [], ◌∷◌, ◌++◌, length, take, drop, Some, None, Option, sym, refl, ap, ◌∙◌, arith}
+use Rattle.std.proofs.Common.{◌≡◌, ℕ, ◌+◌, ◌^◌, ◌≤◌, Bool, false, cond, List, [], ◌∷◌, ◌++◌, length, take, drop, Some, None, Option, sym, refl, ap, ◌∙◌, arith}
 use Rattle.std.proofs.lemmas.List.{append-nil, append_assoc, length-append, length-drop, take_at, drop_at, drop-drop}
 use Rattle.network.specs.declared.terminal.Terminal.TheVariants.{Sink}
 use Rattle.network.specs.Nets.{Ends, Graph, Net, Lawful}
-use Rattle.network.specs.Cuts.{sum_below, cost, node_cost, arc_cost, leaves}
+use Rattle.network.specs.Cuts.{cost, node_cost, arc_cost, leaves}
 use Rattle.network.specs.Paths.{Path, Augmenting, carried, Successive, carried_all, gain, path_words, trail_words}
 use Rattle.network.specs.Theorems.{Lowered}
-use Rattle.network.proofs.Sums.{sum_zero}
+use Rattle.network.proofs.Sums.{sum_zero, sum_at_most}
 use Rattle.network.proofs.Carrying.{paths_lower, few_paths}
 use Rattle.search.specs.declared.report.Log.{Log}
 use Rattle.search.specs.Trails.{Logged, SomeLogged, Further, everything, Bounded}
@@ -58,15 +58,10 @@ everything_left : (o : Option Ends) → leaves everything o ≡ false
 everything_left None = refl
 everything_left (Some e) = refl
 
-sum_le : (n : ℕ) (f : ℕ → ℕ) → ((k : ℕ) → k < n → f k ≤ 2 ^ 40) → sum_below n f ≤ n * 2 ^ 40
-unfolding sum_below
-sum_le zero f below = omega arith
-sum_le (suc n) f below = omega (arith, sum_le n f (λ k less. below k (omega arith)), below n (omega arith))
-
 -- no selection has to cost more than this, so no gain is larger
 pub dear : (v : Net) → Lawful v → cost v everything ≤ 2 ^ 52
 dear v l =
-    let nodes = sum_le v.graph.nodes (node_cost v everything) (l.small Sink) in
+    let nodes = sum_at_most v.graph.nodes (2 ^ 40) (node_cost v everything) (l.small Sink) in
     let arcs = sum_zero 32768 (arc_cost v everything) (λ a _. ap (λ (b : Bool). cond b (v.residual a) 0) (everything_left (v.graph.ends a))) in
     omega (arith, l.graph.few_nodes)
 

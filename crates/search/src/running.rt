@@ -1,5 +1,5 @@
 // The run itself: paths of single nodes, then growth, augmentation and adoption until no path is left or the trail is too short.
-ghost use Rattle.std.specs.Prelude.{◌≡◌, ◌+◌, ◌≤◌, length};
+ghost use Rattle.std.specs.Prelude.{◌≡◌, ◌+◌, ◌≤◌, length, OnErr};
 ghost use Rattle.trees.specs.Trees.{Trees};
 ghost use Rattle.trees.specs.Surveys.{StagesBelow};
 ghost use Rattle.trees.specs.Searches.{Bridges};
@@ -106,6 +106,7 @@ pub fn run<N: Network>(
 ) -> Result<Report, RunRefusal>
     ensures ran { Run (N.Network.value net.old) (record { work = work.old; trail = trail.old; marks = marks.old }) result (N.Network.value net.new) (record { work = work.new; trail = trail.new; marks = marks.new }) }
     ensures kept { N.Network.keeps net.old net.new }
+    ensures refused { OnErr result (net.new ≡ net.old) }
     ensures promise { Promise (N.Network.value net.old) result (N.Network.value net.new) (record { work = work.new; trail = trail.new; marks = marks.new }) }
 {
     let count = net.node_count();

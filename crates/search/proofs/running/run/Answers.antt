@@ -19,7 +19,7 @@ returns g c =
     let wide : length c.search.new.marks ≡ m = search rules in
     let yes : refused v.graph.nodes before ≡ None = rw (← c.node_count-count.ensures) none in
     let run : Run v before (Ok c.search.result) w after = (yes, ps, ran v w before c.search.result c.search.new.work c.search.new.trail c.search.new.marks ps m (g.N.Network.lawful c.args.net.now) c.node_count-count.ensures records bytes long wide logged c.search.ensures.ended) in
-    record { ran = run; kept = c.search.ensures.kept; promise = promised v before (Ok c.search.result) w after run }
+    record { ran = run; kept = c.search.ensures.kept; refused = tt; promise = promised v before (Ok c.search.result) w after run }
 
 pub returns-in_err-check-clause-promise : goal.returns-in_err-check-clause-promise
 returns-in_err-check-clause-promise g c =
