@@ -48,8 +48,8 @@ earned_by_all b =
 
 -- The questions.
 
-pub entries_count : (b : OpenBook) {entries : List Record} → entries ≡ take b.held.entries b.held.table.now → length entries ≡ b.held.entries
-entries_count b is = rw is (length-take-le b.held.entries b.held.table.now (omega (arith, b.held.room)))
+pub entries_long : (b : OpenBook) {entries : List Record} → entries ≡ take b.held.entries b.held.table.now → length entries ≡ b.held.entries
+entries_long b is = rw is (length-take-le b.held.entries b.held.table.now (omega (arith, b.held.room)))
 
 -- those that were put to the entries' records are those of the book
 pub need_asked : (b : OpenBook) (u w : ℕ) {spare : ℕ} {entries : List Record} → entries ≡ take b.held.entries b.held.table.now → spare ≡ unused (open_of b) → need_refusal u w ((columns entries).needed u) (length entries) spare ≡ need_refused (open_of b) u w
@@ -57,7 +57,7 @@ need_asked b u w {spare} {entries} is left =
     let table = b.held.table.now in
     let n = b.held.entries in
     let m = b.held.needs in
-    let count : length entries ≡ n = entries_count b is in
+    let count : length entries ≡ n = entries_long b is in
     let book_count = entry_count table n m in
     ⊎_elim
     (λ (there : u < n). let same : (columns entries).needed u ≡ needs_of u (open_of b).book.needs = rw (is, front_of table n u there) (b.noted u there) in rw (count, left, same, book_count) refl)
@@ -147,7 +147,7 @@ after_need b u w {spare} {entries} is left e none made =
     let table = b.held.table.now in
     let n = b.held.entries in
     let m = b.held.needs in
-    let count : length entries ≡ n = entries_count b is in
+    let count : length entries ≡ n = entries_long b is in
     let there : u < n = omega (arith, e.there) in
     let needed : (columns entries).needed u ≡ (columns table).needed u = rw (is, front_of table n u there) refl in
     let here : Needs u w ((columns table).needed u) n spare = subst (λ k. Needs u w ((columns table).needed u) k spare) count (subst (λ xs. Needs u w xs (length entries) spare) needed e) in

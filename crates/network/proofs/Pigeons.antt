@@ -1,11 +1,10 @@
 -- Distinct numbers below n are at most n many, so a path has few words.
-use Rattle.std.proofs.Common.{◌≡◌, ℕ, zero, suc, ◌<◌, ◌≤◌, true, false, eqb, ◌∙◌, List, [], ◌∷◌, length, Some, sym, refl, ap, subst, arith}
+use Rattle.std.proofs.Common.{◌≡◌, ℕ, suc, ◌<◌, ◌≤◌, true, false, eqb, ◌∙◌, List, [], ◌∷◌, length, Some, sym, refl, ap, subst, arith}
 use Rattle.std.proofs.lemmas.Bool.{ne_eqb}
 use Rattle.std.proofs.lemmas.Bool.Decides.{nat_tests}
 use Rattle.std.proofs.lemmas.Map.Steps.{length-le_from_distinct_below}
 use Rattle.std.specs.List.{AllByRecursion, IsDistinct, list_any}
 use Rattle.network.specs.Nets.{Ends, Graph, LawfulGraph, Distinct}
-use Rattle.network.specs.Cuts.{sum_below}
 use Rattle.network.specs.Paths.{Chain, passed}
 use Rattle.network.specs.Theorems.{FewWords}
 use Rattle.network.proofs.Lists.{not_again, distinct_more, all_by_nth}
@@ -21,11 +20,6 @@ distinct_list (x ∷ xs) d =
 found_below : (n : ℕ) (xs : List ℕ) → AllByRecursion (λ x. x < n) xs → (q : ℕ) → list_any (eqb q) xs ≡ true → q < n
 found_below n [] below q found = cc
 found_below n (x ∷ xs) (first, below) q found = grind (arith, nat_tests, found_below n xs below q)
-
-pub sum_ones : (n : ℕ) (f : ℕ → ℕ) → ((k : ℕ) → f k ≤ 1) → sum_below n f ≤ n
-unfolding sum_below
-sum_ones zero f one = omega arith
-sum_ones (suc n) f one = omega (arith, sum_ones n f one, one n)
 
 pub pigeons : (n : ℕ) (xs : List ℕ) → AllByRecursion (λ x. x < n) xs → Distinct xs → length xs ≤ n
 pigeons n xs below d = length-le_from_distinct_below xs n (distinct_list xs d) (found_below n xs below)

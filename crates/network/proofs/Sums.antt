@@ -33,3 +33,12 @@ pub part_le_sum : (n k : ℕ) (f : ℕ → ℕ) → k < n → f k ≤ sum_below 
 unfolding sum_below
 part_le_sum zero k f there = absurd (omega arith)
 part_le_sum (suc n) k f there = grind (arith, cases_eq k n, part_le_sum n k f)
+
+-- a sum up to a smaller number is no greater
+pub sum_mono : (f : ℕ → ℕ) (u w : ℕ) → u ≤ w → sum_below u f ≤ sum_below w f
+unfolding sum_below
+sum_mono f u zero less = let same : u ≡ 0 = omega arith in rw same (omega arith)
+sum_mono f u (suc w) less = ⊎_elim
+    (λ (same : u ≡ suc w). omega (arith, ap (λ k. sum_below k f) same))
+    (λ (not : u ≡ suc w → ⊥). omega (arith, sum_mono f u w (omega (arith, not))))
+    (cases_eq u (suc w))

@@ -1,5 +1,6 @@
 -- What a row means, that it keeps the laws of a network, and what else it keeps. Assumes nothing.
 use Rattle.std.specs.Prelude.{◌≡◌, List, length, drop, refl}
+use Rattle.std.specs.Borrow.{MutBor}
 use Rattle.std.proofs.Common.{◌∙◌}
 use Rattle.network.specs.Nets.{Net, Lawful}
 use Rattle.network.specs.Keeping.{Keeping}
@@ -8,9 +9,12 @@ use Rattle.row.specs.declared.cell.Cell.{Cell}
 use Rattle.row.specs.Rows.{count, of_cells}
 use Rattle.row.specs.Laws.{lawful}
 
--- the cells of the slice
+-- the slice that the row borrows, and its cells
+abbrev pub slice_of : Row → MutBor (List Cell)
+slice_of row = row.cells
+
 abbrev pub cells_of : Row → List Cell
-cells_of row = row.cells.now
+cells_of row = (slice_of row).now
 
 abbrev pub row_value : Row → Net
 row_value row = of_cells (cells_of row)
@@ -24,7 +28,7 @@ left_out row = drop (count (cells_of row)) (cells_of row)
 
 -- y lies over the same slice as x, which is as long as it was, and whose cells that are no nodes are as they were
 abbrev pub row_keeps : Row → Row → Type 0
-row_keeps x y = (y.cells.ghost_name ≡ x.cells.ghost_name) × (length (cells_of y) ≡ length (cells_of x)) × (left_out y ≡ left_out x)
+row_keeps x y = ((slice_of y).ghost_name ≡ (slice_of x).ghost_name) × (length (cells_of y) ≡ length (cells_of x)) × (left_out y ≡ left_out x)
 
 pub row_keeping : Keeping row_keeps
 row_keeping = record {

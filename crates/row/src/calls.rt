@@ -3,7 +3,7 @@ ghost use Rattle.std.specs.Prelude.{◌≡◌, map, Ok};
 ghost use Rattle.network.specs.Answers.{at_arc, at_node};
 ghost use Rattle.row.specs.Cells.{capped};
 ghost use Rattle.row.specs.Rows.{cell_at, owner, way_of};
-ghost use Rattle.row.specs.Values.{cells_of, row_value, row_lawful, row_keeps, row_keeping};
+ghost use Rattle.row.specs.Values.{slice_of, cells_of, row_value, row_lawful, row_keeps, row_keeping};
 
 use super::Row;
 use super::cell::{Cell, Way};
@@ -17,7 +17,7 @@ impl<'a> Row<'a> {
     // its borrow, lets whoever lent the cells know what he finds in them when the row is gone.
     pub fn new(cells: &'a mut [Cell]) -> Row<'a>
         ensures cells { cells_of result ≡ map capped cells.old }
-        ensures same_slice { result.cells.ghost_name ≡ cells.entry.ghost_name }
+        ensures same_slice { (slice_of result).ghost_name ≡ cells.entry.ghost_name }
     {
         for cell in cells.iter_mut() {
             *cell = cell.capped();

@@ -4,8 +4,7 @@ use Rattle.std.proofs.lemmas.Bool.{cases_Bool}
 use Rattle.std.proofs.lemmas.Bool.Decides.{nat_tests}
 use Rattle.network.specs.Nets.{at}
 use Rattle.network.specs.Cuts.{sum_below}
-use Rattle.network.proofs.Sums.{sum_differs, part_le_sum, sum_zero}
-use Rattle.network.proofs.Pigeons.{sum_ones}
+use Rattle.network.proofs.Sums.{sum_differs, part_le_sum, sum_zero, sum_at_most}
 use Rattle.trees.specs.Rings.{tally}
 use Rattle.trees.proofs.Points.{at_here, at_else}
 
@@ -16,7 +15,7 @@ sum_at n u m y w there =
     omega (arith, ap w (at_here m u y u refl))
 
 pub tally_le : (n : ℕ) (m : ℕ → Bool) → tally n m ≤ n
-tally_le n m = sum_ones n (λ u. cond (m u) 1 0) (λ k. grind (arith, cases_Bool (m k)))
+tally_le n m = omega (arith, sum_at_most n 1 (λ u. cond (m u) 1 0) (λ k _. grind (arith, cases_Bool (m k))))
 
 pub tally_at : (n u : ℕ) (m : ℕ → Bool) (b : Bool) → u < n → tally n (at m u b) + cond (m u) 1 0 ≡ tally n m + cond b 1 0
 tally_at n u m b there = sum_at n u m b (λ x. cond x 1 0) there

@@ -1,15 +1,15 @@
 use Rattle.std.proofs.Common.{rules, arith}
-use Rattle.book.proofs.Needings.{need_asked, countable, after_need, entries_count}
+use Rattle.book.proofs.Needings.{need_asked, countable, after_need, entries_long}
 use Rattle.book.proofs.open.OpenBook.need.Goals as goal
 
 pub returns-in_err-check : goal.returns-in_err-check
 returns-in_err-check c = let same = need_asked c.args.self.now c.args.entry c.args.needed c.records.ensures c.unused.ensures.value in search rules
 
 pub write_need-requires-clause-countable : goal.write_need-requires-clause-countable
-write_need-requires-clause-countable c = let b = c.args.self.now in countable b c.args.entry (omega (arith, c.in_ok-check.ensures.accepted.there, entries_count b c.records.ensures))
+write_need-requires-clause-countable c = let b = c.args.self.now in countable b c.args.entry (omega (arith, c.in_ok-check.ensures.accepted.there, entries_long b c.records.ensures))
 
 pub write_need-requires-clause-needed_countable : goal.write_need-requires-clause-needed_countable
-write_need-requires-clause-needed_countable c = let b = c.args.self.now in countable b c.args.needed (omega (arith, c.in_ok-check.ensures.accepted.needed_there, entries_count b c.records.ensures))
+write_need-requires-clause-needed_countable c = let b = c.args.self.now in countable b c.args.needed (omega (arith, c.in_ok-check.ensures.accepted.needed_there, entries_long b c.records.ensures))
 
 pub invariant_of-self : goal.invariant_of-self
 invariant_of-self c =
