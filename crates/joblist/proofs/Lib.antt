@@ -1,0 +1,2 @@
+-- The lemmas that the answers share.
+pub mod Numerals

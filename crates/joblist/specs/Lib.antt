@@ -1,0 +1,4 @@
+-- What a reader must believe of a job list.
+pub mod Lines
+pub mod Amounts
+-- What inner functions agree on.

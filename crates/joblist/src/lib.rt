@@ -1,0 +1,4 @@
+// A job list: a readable text of jobs and set-ups, and the order sheet that it makes.
+#![tactic(auto)]
+
+mod words;
