@@ -1,4 +1,7 @@
 // A job list: a readable text of jobs and set-ups, and the order sheet that it makes.
 #![tactic(auto)]
 
+mod refusal;
 mod words;
+
+pub use refusal::{Fault, JobRefusal, Told};
