@@ -1,2 +1,3 @@
 -- The lemmas that the answers share.
 pub mod Numerals
+pub mod Lists

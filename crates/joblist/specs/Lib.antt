@@ -1,6 +1,9 @@
 -- What a reader must believe of a job list.
 pub mod Lines
 pub mod Amounts
+pub mod Entries
 pub mod Refusals
+pub mod Faults
 pub mod Texts
 -- What inner functions agree on.
+pub mod Passes

@@ -1,6 +1,8 @@
 // A job list: a readable text of jobs and set-ups, and the order sheet that it makes.
 #![tactic(auto)]
 
+mod entry;
+mod reading;
 mod refusal;
 mod words;
 

@@ -1,0 +1,30 @@
+-- The questions that are put to a line: the first whose answer is no.
+use Rattle.std.specs.Prelude.{ℕ, Bool, cond, not, ◌&&◌, ◌||◌, ◌==◌, nat_le, nat_lt, List, [], length, drop, take, Some, None, Option, slice_index_or}
+use Rattle.std.specs.List.{list_any, position_or_len}
+use Rattle.std.specs.Str.{bytes_eq}
+use Rattle.joblist.specs.declared.refusal.Fault.{Fault}
+use Rattle.joblist.specs.declared.refusal.Fault.TheVariants.{NoEntry, AmountRange, NameTaken, TooMany, ManyNeeds, Unknown, Itself, Repeated}
+use Rattle.joblist.specs.Amounts.{is_amount}
+use Rattle.joblist.specs.Entries.{Entry, no_entry, word, is_job, is_set_up}
+
+-- whether words are those of an entry: `job` or `set-up`, then a name and an amount
+abbrev pub tells_entry : List (List ℕ) → Bool
+tells_entry words = nat_le 3 (length words) && (is_job words || is_set_up words)
+
+-- whether one of the entries has this name
+abbrev pub is_taken : List Entry → List ℕ → Bool
+is_taken es name = list_any (λ e. bytes_eq e.name name) es
+
+-- put to a line of these words by itself, where these entries stand on the lines before it
+abbrev pub line_fault : List Entry → List (List ℕ) → Option Fault
+line_fault before words =
+    cond (not (tells_entry words)) (Some NoEntry) (cond (not (is_amount (word words 2))) (Some AmountRange) (cond (is_taken before (word words 1)) (Some NameTaken) (cond (nat_le 4096 (length before)) (Some TooMany) (cond (nat_lt 4 (length (drop 3 words))) (Some ManyNeeds) None))))
+
+-- the number of the first entry with this name; how many there are, where none has it
+abbrev pub number_of : List Entry → List ℕ → ℕ
+number_of es name = position_or_len (λ e. bytes_eq e.name name) es
+
+-- put to a name that entry number u needs, where its line names these before it
+abbrev pub need_fault : List Entry → ℕ → List (List ℕ) → List ℕ → Option Fault
+need_fault es u before name =
+    cond (nat_le (length es) (number_of es name)) (Some Unknown) (cond (number_of es name == u) (Some Itself) (cond (list_any (λ other. bytes_eq other name) before) (Some Repeated) None))

@@ -1,0 +1,81 @@
+// The first pass: each line that says something is read into an entry.
+ghost use Rattle.std.specs.Prelude.{◌≡◌, map, IfOk};
+ghost use Rattle.std.specs.Result.{result_err};
+ghost use Rattle.std.specs.Str.Parse.{digits_value};
+ghost use Rattle.joblist.specs.Entries.{value_of, word};
+ghost use Rattle.joblist.specs.Faults.{tells_entry, is_taken, line_fault};
+ghost use Rattle.joblist.specs.Passes.{LineRead};
+
+use super::entry::Entry;
+use super::refusal::Fault;
+use super::words::amount_of;
+use std::alloc::{AllocError, Global};
+
+// The most entries of a job list, and the most needs of one: those of a book, whose crate keeps them to itself.
+const MOST_ENTRIES: usize = 4_096;
+const MOST_NEEDS: usize = 4;
+
+// The words that begin the line of an entry.
+const JOB: &[u8] = b"job";
+const SET_UP: &[u8] = b"set-up";
+
+// How many words stand before the names of what an entry needs.
+const FIRST_NEED: usize = 3;
+
+// Whether words are those of an entry: what it is, its name, its amount, and more.
+fn tells_entry(words: &[&[u8]]) -> bool
+    ensures { result ≡ tells_entry (map (λ word. word.now) words.now) }
+{
+    words.len() >= FIRST_NEED && (words[0] == JOB || words[0] == SET_UP)
+}
+
+// Whether one of the entries has this name.
+fn is_taken(entries: &[Entry], name: &[u8]) -> bool
+    ensures { result ≡ is_taken (map value_of entries.now) name.now }
+{
+    entries.iter().any(|entry| entry.name == name)
+}
+
+// Puts the questions to a line of these words by itself, where these entries stand on the lines before it, and answers its amount.
+fn check(before: &[Entry], words: &[&[u8]]) -> Result<u32, Fault>
+    ensures refusal { result_err result ≡ line_fault (map value_of before.now) (map (λ word. word.now) words.now) }
+    ensures amount { IfOk result (λ amount. amount ≡ digits_value 10 (word (map (λ word. word.now) words.now) 2)) }
+{
+    if !tells_entry(words) {
+        return Err(Fault::NoEntry);
+    }
+    let amount = amount_of(words[2]).ok_or(Fault::AmountRange)?;
+    if is_taken(before, words[1]) {
+        Err(Fault::NameTaken)
+    } else if before.len() >= MOST_ENTRIES {
+        Err(Fault::TooMany)
+    } else if words.len() > FIRST_NEED + MOST_NEEDS {
+        Err(Fault::ManyNeeds)
+    } else {
+        Ok(amount)
+    }
+}
+
+// Reads a line of these words.
+fn read_line<'a>(
+    heap: Global,
+    before: &[Entry],
+    line: usize,
+    words: &[&'a [u8]],
+) -> Result<Result<Entry<'a>, Fault>, AllocError>
+    ensures { IfOk result (λ read. LineRead (map value_of before.now) (record { number = line; words = map (λ word. word.now) words.now }) read) }
+{
+    let amount = match check(before, words) {
+        Ok(amount) => amount,
+        Err(fault) => return Ok(Err(fault)),
+    };
+    let (earning, cost) = if words[0] == JOB { (amount, 0) } else { (0, amount) };
+    let needs = words[FIRST_NEED..].iter().copied().collect(heap)?;
+    Ok(Ok(Entry {
+        line,
+        name: words[1],
+        earning,
+        cost,
+        needs,
+    }))
+}
