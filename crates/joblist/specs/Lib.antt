@@ -4,6 +4,7 @@ pub mod Amounts
 pub mod Entries
 pub mod Refusals
 pub mod Faults
+pub mod JobLists
 pub mod Texts
 -- What inner functions agree on.
 pub mod Passes

@@ -1,14 +1,15 @@
 // The first pass: each line that says something is read into an entry.
-ghost use Rattle.std.specs.Prelude.{◌≡◌, map, IfOk};
+ghost use Rattle.std.specs.Prelude.{◌≡◌, ◌≤◌, length, map, IfOk};
 ghost use Rattle.std.specs.Result.{result_err};
 ghost use Rattle.std.specs.Str.Parse.{digits_value};
 ghost use Rattle.joblist.specs.Entries.{value_of, word};
+ghost use Rattle.joblist.specs.Lines.{lines_of};
 ghost use Rattle.joblist.specs.Faults.{tells_entry, is_taken, line_fault};
-ghost use Rattle.joblist.specs.Passes.{LineRead};
+ghost use Rattle.joblist.specs.Passes.{LineRead, LinesRead, entries_of};
 
 use super::entry::Entry;
-use super::refusal::Fault;
-use super::words::amount_of;
+use super::refusal::{Fault, JobRefusal};
+use super::words::{amount_of, says, words_of};
 use std::alloc::{AllocError, Global};
 
 // The most entries of a job list, and the most needs of one: those of a book, whose crate keeps them to itself.
@@ -78,4 +79,31 @@ fn read_line<'a>(
         cost,
         needs,
     }))
+}
+
+// Reads the lines of a text, as far as the first with a fault.
+pub(crate) fn read_lines<'a>(
+    heap: Global,
+    text: &'a [u8],
+) -> Result<Result<Vec<Entry<'a>>, JobRefusal>, AllocError>
+    requires { length text.now ≤ 1048576 }
+    ensures { IfOk result (λ read. LinesRead (lines_of text.now) (entries_of read)) }
+{
+    let mut entries = Vec::new(heap);
+    for (place, line) in text.split(|byte| *byte == b'\n').enumerate() {
+        let words = words_of(heap, line)?;
+        if !says(&words) {
+            continue;
+        }
+        match read_line(heap, &entries, place + 1, &words)? {
+            Ok(entry) => entries.push(entry)?,
+            Err(fault) => {
+                return Ok(Err(JobRefusal::Faulty {
+                    fault,
+                    line: place + 1,
+                }));
+            }
+        }
+    }
+    Ok(Ok(entries))
 }
