@@ -34,7 +34,7 @@ pub fine : (b : OpenBook) → Fine b.held.table.now b.held.entries b.held.needs
 fine b = record {
   few = b.held.few;
   room = b.held.room;
-  kept = record { amounts = b.held.amounts; heads = b.held.heads; unsent = b.unsent; noted = b.noted; four = b.four; counted = b.counted; arcs = b.arcs };
+  kept = record { amounts = b.held.amounts; heads = b.held.heads; unsent = b.unsent; noted = b.noted; four = b.four; counted = b.counted; others = b.others; once = b.once; arcs = b.arcs };
 }
 
 pub entry_count : (table : List Record) (n m : ℕ) → length (book_in (columns table) n m).entries ≡ n

@@ -6,6 +6,8 @@ pub mod Plans
 pub mod Keeping
 pub mod Enterings
 pub mod Needings
+pub mod Lookups
+pub mod Proper
 pub mod Settled
 pub mod Ends
 pub mod Spans

@@ -26,7 +26,7 @@ use Rattle.book.proofs.Enterings.{standing, Fine, fine, entry_count, need_count,
 
 -- The entries' records by themselves.
 
-front_of : (table : List Record) (n u : ℕ) → u < n → front (take n table) u ≡ front table u
+pub front_of : (table : List Record) (n u : ℕ) → u < n → front (take n table) u ≡ front table u
 front_of table n u there = get_or-take n table u no_record there
 
 -- what they earn is what the book's entries earn
@@ -121,7 +121,7 @@ after_written lent n m u w spare f e is none =
       fine = record {
         few = f.few;
         room = omega (arith, f.room, e.room, written_length table m u w);
-        kept = subst (λ (c : Columns). Kept c n (m + 1)) (sym told) (kept_need (columns table) n m u w f.kept e.there e.needed_there e.others e.few);
+        kept = subst (λ (c : Columns). Kept c n (m + 1)) (sym told) (kept_need (columns table) n m u w f.kept e.there e.needed_there e.others e.fresh e.few);
       };
       needed = (
         none,

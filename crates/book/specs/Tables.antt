@@ -1,10 +1,11 @@
 -- How a table holds a book: entries from its front, the arcs of needs from its end.
-use Rattle.std.specs.Prelude.{◌≡◌, ℕ, ◌+◌, ◌-◌, ◌*◌, ◌<◌, ◌≤◌, cond, List, [], map, length, take, nat_lt, slice_index_or}
+use Rattle.std.specs.Prelude.{◌≡◌, ℕ, ◌+◌, ◌-◌, ◌*◌, ◌<◌, ◌≤◌, false, cond, List, [], map, length, take, nat_lt, slice_index_or}
 use Rattle.std.specs.List.{range_with_len}
-use Rattle.network.specs.Nets.{Net}
+use Rattle.network.specs.Nets.{Net, Distinct}
 use Rattle.network.specs.Cuts.{sum_below}
 use Rattle.book.specs.declared.record.Record.{Record}
 use Rattle.book.specs.Books.{Amounts, Need, Book, needs_of, amount, arcs_from, paired, binding}
+use Rattle.book.specs.Refusals.{among}
 
 -- the record past the end, which nothing reads
 abbrev pub no_record : Record
@@ -93,6 +94,13 @@ AtMostFour c n = (u : ℕ) → u < n → (length (c.needed u) ≤ 4) × (c.count
 -- so there are as many needs as the entries have together
 abbrev pub NeedsCounted : Columns → ℕ → ℕ → Type 0
 NeedsCounted c n m = sum_below n (λ u. length (c.needed u)) ≡ m
+
+-- no entry needs itself, nor another twice
+abbrev pub OthersNeeded : Columns → ℕ → Type 0
+OthersNeeded c n = (u : ℕ) → u < n → among u (c.needed u) ≡ false
+
+abbrev pub NeededOnce : Columns → ℕ → Type 0
+NeededOnce c n = (u : ℕ) → u < n → Distinct (c.needed u)
 
 -- each entry's record has the number of its arcs
 abbrev pub ArcsCounted : Columns → ℕ → ℕ → Type 0

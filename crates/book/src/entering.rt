@@ -1,8 +1,7 @@
-// The calls on an open book.
-ghost use Rattle.std.specs.Prelude.{◌≡◌, ◌+◌, ◌-◌, ◌*◌, ◌<◌, ◌≤◌, ◌≢◌, length, sum_by, take};
+// The calls that make, change and end an open book.
+ghost use Rattle.std.specs.Prelude.{◌≡◌, ◌+◌, ◌-◌, ◌*◌, ◌<◌, ◌≤◌, ◌≢◌, length};
 ghost use Rattle.book.specs.Calls.{new_book, unused, Entered, Needed};
 ghost use Rattle.book.specs.Needings.{need_written};
-ghost use Rattle.book.specs.Plans.{total_earnings};
 ghost use Rattle.book.specs.Tables.{front};
 ghost use Rattle.book.specs.Values.{open_of};
 
@@ -27,34 +26,6 @@ impl<'a> OpenBook<'a> {
                 needs: 0,
             },
         }
-    }
-
-    // How many entries the book has.
-    pub fn entry_count(&self) -> usize
-        ensures { result ≡ length (open_of self.now).book.entries }
-    {
-        self.held.entries
-    }
-
-    // How many needs its entries have together.
-    pub fn need_count(&self) -> usize
-        ensures { result ≡ length (open_of self.now).book.needs }
-    {
-        self.held.needs
-    }
-
-    // What all its entries earn.
-    pub fn total_earnings(&self) -> u64
-        ensures { result ≡ total_earnings (open_of self.now).book }
-    {
-        earnings(self.held.records())
-    }
-
-    // How many records the table has.
-    pub fn record_count(&self) -> usize
-        ensures { result ≡ length (open_of self.now).table.now }
-    {
-        self.held.table.len()
     }
 
     // How many records are unused.
@@ -94,14 +65,6 @@ impl<'a> OpenBook<'a> {
     {
         self.held.release()
     }
-}
-
-// What entries with these records earn.
-fn earnings(entries: &[Record]) -> u64
-    requires { length entries.now ≤ 4096 }
-    ensures { result ≡ sum_by (λ (r : Record). r.earning) entries.now }
-{
-    entries.iter().map(|entry| u64::from(entry.earning)).sum()
 }
 
 // Writes need number `number` into a table: the entry's record tells it, both entries have an arc more, and the arcs stand from the end.

@@ -79,12 +79,20 @@ impl Record {
         }
     }
 
+    // The entries that it needs, in the order of entering.
+    pub(crate) fn needed(&self) -> &[u16]
+        requires { self.now.needs ≤ 4 }
+        ensures { result.now ≡ take self.now.needs self.now.needed }
+    {
+        &self.needed[..usize::from(self.needs)]
+    }
+
     // Whether the entry needs another already.
     pub(crate) fn has_need(self, needed: u16) -> bool
         requires { self.needs ≤ 4 }
         ensures { result ≡ among needed (take self.needs self.needed) }
     {
-        self.needed[..usize::from(self.needs)].contains(&needed)
+        self.needed().contains(&needed)
     }
 
     // What the entry has at a terminal.

@@ -9,7 +9,7 @@ invariant_of-held-2 c =
 pub invariant_of-self : goal.invariant_of-self
 invariant_of-self c =
     let new = (after_entry c.args.self.now c.args.earning c.args.cost _ c.entry_count.ensures c.unused.ensures.value c.in_ok-check.ensures.accepted c.in_ok-check.ensures.refusal c.as_entry.ensures).fine.kept in
-    record { unsent = new.unsent; noted = new.noted; four = new.four; counted = new.counted; arcs = new.arcs }
+    record { unsent = new.unsent; noted = new.noted; four = new.four; counted = new.counted; others = new.others; once = new.once; arcs = new.arcs }
 
 pub returns : goal.returns
 returns c = (after_entry c.args.self.now c.args.earning c.args.cost _ c.entry_count.ensures c.unused.ensures.value c.in_ok-check.ensures.accepted c.in_ok-check.ensures.refusal c.as_entry.ensures).entered

@@ -14,7 +14,7 @@ write_need-requires-clause-needed_countable c = let b = c.args.self.now in count
 pub invariant_of-self : goal.invariant_of-self
 invariant_of-self c =
     let new = (after_need c.args.self.now c.args.entry c.args.needed c.records.ensures c.unused.ensures.value c.in_ok-check.ensures.accepted c.in_ok-check.ensures.refusal c.write_need.ensures).fine.kept in
-    record { unsent = new.unsent; noted = new.noted; four = new.four; counted = new.counted; arcs = new.arcs }
+    record { unsent = new.unsent; noted = new.noted; four = new.four; counted = new.counted; others = new.others; once = new.once; arcs = new.arcs }
 
 pub returns : goal.returns
 returns c = (after_need c.args.self.now c.args.entry c.args.needed c.records.ensures c.unused.ensures.value c.in_ok-check.ensures.accepted c.in_ok-check.ensures.refusal c.write_need.ensures).needed
