@@ -1,6 +1,7 @@
--- The first of many.
-use Rattle.std.proofs.Common.{◌≡◌, ℕ, zero, suc, ◌+◌, ◌≤◌, ◌-◌, Some, None, Option, refl, sym, ap, ◌∙◌, subst, arith}
+-- The first of many, and questions that are put one after another.
+use Rattle.std.proofs.Common.{◌≡◌, Bool, true, false, cond, ℕ, zero, suc, ◌+◌, ◌<◌, ◌≤◌, ◌-◌, Some, None, Option, refl, sym, subst, ⊎_elim, arith}
 use Rattle.std.specs.Option.{option_or}
+use Rattle.std.proofs.lemmas.Bool.{cases_lt}
 use Rattle.joblist.specs.JobLists.{first_below}
 
 -- there is none below 0
@@ -23,3 +24,23 @@ first_further f n (suc k) x is =
 
 pub first_stays : {A : Type 0} (f : ℕ → Option A) (n m : ℕ) (x : A) → n ≤ m → first_below n f ≡ Some x → first_below m f ≡ Some x
 first_stays f n m x le is = let e : n + (m - n) ≡ m = omega arith in subst (λ k. first_below k f ≡ Some x) e (first_further f n (m - n) x is)
+
+-- where no question refuses, the first does not, nor do the others
+pub asked : {A : Type 0} (b : Bool) (x : A) (o : Option A) → cond b (Some x) o ≡ None → (b ≡ false) × (o ≡ None)
+asked true x o never = let no : ◌≡◌ {A = ℕ} 0 1 = cc in absurd (omega arith)
+asked false x o none = (refl, none)
+
+-- where there is none below n, none of them is there
+neither_first : {A : Type 0} (o p : Option A) → option_or o p ≡ None → (o ≡ None) × (p ≡ None)
+neither_first None p none = (refl, none)
+neither_first (Some x) p never = let no : ◌≡◌ {A = ℕ} 0 1 = cc in absurd (omega arith)
+
+pub first_each : {A : Type 0} (f : ℕ → Option A) (n k : ℕ) → first_below n f ≡ None → k < n → f k ≡ None
+unfolding first_below
+first_each f zero k none below = absurd (omega arith)
+first_each f (suc n) k none below =
+    let both = neither_first (first_below n f) (f n) none in
+    ⊎_elim
+      (λ (earlier : k < n). first_each f n k both.0 earlier)
+      (λ (last : n ≤ k). let is : n ≡ k = omega arith in subst (λ j. f j ≡ None) is both.1)
+      (cases_lt k n)

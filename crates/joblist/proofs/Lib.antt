@@ -3,3 +3,6 @@ pub mod Numerals
 pub mod Lists
 pub mod Firsts
 pub mod LineByLine
+pub mod EntryByEntry
+pub mod NameByName
+pub mod Soundness

@@ -1,11 +1,11 @@
 -- The questions that are put to a line: the first whose answer is no.
-use Rattle.std.specs.Prelude.{ℕ, Bool, cond, not, ◌&&◌, ◌||◌, ◌==◌, nat_le, nat_lt, List, [], length, drop, take, Some, None, Option, slice_index_or}
+use Rattle.std.specs.Prelude.{ℕ, Bool, cond, not, ◌&&◌, ◌||◌, ◌==◌, nat_le, nat_lt, List, length, drop, Some, None, Option}
 use Rattle.std.specs.List.{list_any, position_or_len}
 use Rattle.std.specs.Str.{bytes_eq}
 use Rattle.joblist.specs.declared.refusal.Fault.{Fault}
 use Rattle.joblist.specs.declared.refusal.Fault.TheVariants.{NoEntry, AmountRange, NameTaken, TooMany, ManyNeeds, Unknown, Itself, Repeated}
 use Rattle.joblist.specs.Amounts.{is_amount}
-use Rattle.joblist.specs.Entries.{Entry, no_entry, word, is_job, is_set_up}
+use Rattle.joblist.specs.Entries.{Entry, word, is_job, is_set_up}
 
 -- whether words are those of an entry: `job` or `set-up`, then a name and an amount
 abbrev pub tells_entry : List (List ℕ) → Bool
@@ -24,7 +24,11 @@ line_fault before words =
 abbrev pub number_of : List Entry → List ℕ → ℕ
 number_of es name = position_or_len (λ e. bytes_eq e.name name) es
 
+-- whether one of the names is this one
+abbrev pub is_among : List (List ℕ) → List ℕ → Bool
+is_among names name = list_any (λ other. bytes_eq other name) names
+
 -- put to a name that entry number u needs, where its line names these before it
 abbrev pub need_fault : List Entry → ℕ → List (List ℕ) → List ℕ → Option Fault
 need_fault es u before name =
-    cond (nat_le (length es) (number_of es name)) (Some Unknown) (cond (number_of es name == u) (Some Itself) (cond (list_any (λ other. bytes_eq other name) before) (Some Repeated) None))
+    cond (nat_le (length es) (number_of es name)) (Some Unknown) (cond (number_of es name == u) (Some Itself) (cond (is_among before name) (Some Repeated) None))

@@ -23,11 +23,15 @@ at_line n o = option_map (λ f. Faulty f n) o
 abbrev pub line_refusal : List Line → ℕ → Option JobRefusal
 line_refusal ls k = let l = slice_index_or ls k no_line in at_line l.number (line_fault (map entry_of (take k ls)) l.words)
 
--- what refuses what entry number u needs: the first of its names with a fault
+-- the first fault of a name that entry number u needs
+abbrev pub name_fault : List Entry → ℕ → Option Fault
+name_fault es u =
+    let names = (slice_index_or es u no_entry).needs in
+    first_below (length names) (λ k. need_fault es u (take k names) (slice_index_or names k []))
+
+-- what refuses its line for it
 abbrev pub needs_refusal : List Entry → ℕ → Option JobRefusal
-needs_refusal es u =
-    let e = slice_index_or es u no_entry in
-    at_line e.line (first_below (length e.needs) (λ k. need_fault es u (take k e.needs) (slice_index_or e.needs k [])))
+needs_refusal es u = at_line (slice_index_or es u no_entry).line (name_fault es u)
 
 -- what these entries need, where the first is number u of all: the numbers of those with the names
 abbrev pub needs_from : List Entry → ℕ → List Entry → List Need

@@ -1,13 +1,16 @@
 -- What the inner functions of a job list agree on.
-use Rattle.std.specs.Prelude.{◌≡◌, Some, None, Ok, Err, Result, List, map, length, vec_items, Vec}
+use Rattle.std.specs.Prelude.{◌≡◌, ℕ, ◌<◌, ◌≤◌, cond, nat_lt, Some, None, Ok, Err, Option, Result, List, [], map, length, take, vec_items, Vec, slice_index_or}
 use Rattle.std.specs.declared.alloc.Global.{Global}
+use Rattle.book.specs.Books.{Book}
+use Rattle.book.specs.Calls.{Open}
+use Rattle.filing.specs.Passes.{Filled, with_needs}
 use Rattle.joblist.specs.declared.entry.Entry.{Entry as TheEntry}
 use Rattle.joblist.specs.declared.refusal.Fault.{Fault}
 use Rattle.joblist.specs.declared.refusal.JobRefusal.{JobRefusal}
 use Rattle.joblist.specs.Lines.{Line}
-use Rattle.joblist.specs.Entries.{Entry, entry_of, value_of}
-use Rattle.joblist.specs.Faults.{line_fault}
-use Rattle.joblist.specs.JobLists.{first_below, line_refusal}
+use Rattle.joblist.specs.Entries.{Entry, no_entry, entry_of, value_of}
+use Rattle.joblist.specs.Faults.{line_fault, number_of}
+use Rattle.joblist.specs.JobLists.{first_below, line_refusal, name_fault, needs_refusal, needs_from, book_of, book_of_text}
 
 -- the line l is read, where these entries stand on the lines before it
 abbrev pub LineRead : List Entry → Line → Result TheEntry Fault → Type 0
@@ -23,3 +26,52 @@ entries_of (Err x) = Err x
 abbrev pub LinesRead : List Line → Result (List Entry) JobRefusal → Type 0
 LinesRead ls (Ok es) = (first_below (length ls) (line_refusal ls) ≡ None) × (es ≡ map entry_of ls)
 LinesRead ls (Err x) = first_below (length ls) (line_refusal ls) ≡ Some x
+
+-- the number of the first entry with this name, where one has it
+abbrev pub place_of : List Entry → List ℕ → Option ℕ
+place_of es name = cond (nat_lt (number_of es name) (length es)) (Some (number_of es name)) None
+
+-- the amounts of an entry are those that a book takes
+pub record Small (e : Entry) : Type 0 where
+  pub earning : e.amounts.earning ≤ 1000000
+  pub cost : e.amounts.cost ≤ 1000000
+
+-- entries that no question put to a line by itself refuses
+pub record Sound (es : List Entry) : Type 0 where
+  pub few : length es ≤ 4096
+  pub small : (u : ℕ) → u < length es → Small (slice_index_or es u no_entry)
+  pub needs : (u : ℕ) → u < length es → length (slice_index_or es u no_entry).needs ≤ 4
+
+-- the book of entries before anything that they need is entered
+abbrev pub with_entries : List Entry → Book
+with_entries es = record { entries = map (λ e. e.amounts) es; needs = [] }
+
+-- the book of entries, and of what the first n of them need
+abbrev pub with_needs_of : List Entry → ℕ → Book
+with_needs_of es n = record { entries = map (λ e. e.amounts) es; needs = needs_from es 0 (take n es) }
+
+-- the numbers of what entry number u needs
+abbrev pub numbers_of : List Entry → ℕ → List ℕ
+numbers_of es u = map (number_of es) (slice_index_or es u no_entry).needs
+
+-- the book s may have what entry number u needs
+pub record NeedsFit (es : List Entry) (u : ℕ) (s : Open) : Type 0 where
+  pub sound : Sound es
+  pub there : u < length es
+  pub book : s.book ≡ with_needs_of es u
+  pub room : 36864 ≤ length s.table.now
+
+-- the book s has what entry number u needs, which leaves t, or the first name with a fault is told
+abbrev pub NeedsEntered : List Entry → ℕ → Open → Result (Unit {0}) Fault → Open → Type 0
+NeedsEntered es u s (Ok _) t = (name_fault es u ≡ None) × Filled (with_needs s.book u (numbers_of es u)) s t
+NeedsEntered es u s (Err f) t = name_fault es u ≡ Some f
+
+-- the book s has what all entries need, which leaves t, or the first name with a fault is told
+abbrev pub AllNeedsEntered : List Entry → Open → Result (Unit {0}) JobRefusal → Open → Type 0
+AllNeedsEntered es s (Ok _) t = (first_below (length es) (needs_refusal es) ≡ None) × Filled (book_of es) s t
+AllNeedsEntered es s (Err x) t = first_below (length es) (needs_refusal es) ≡ Some x
+
+-- the book t is that of a text, or the text's refusal is told
+abbrev pub BookFilled : List ℕ → Result (Unit {0}) JobRefusal → Open → Type 0
+BookFilled text (Ok _) t = book_of_text text ≡ Ok t.book
+BookFilled text (Err x) t = book_of_text text ≡ Err x

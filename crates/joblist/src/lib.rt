@@ -1,7 +1,9 @@
 // A job list: a readable text of jobs and set-ups, and the order sheet that it makes.
 #![tactic(auto)]
 
+mod drafting;
 mod entry;
+mod filling;
 mod reading;
 mod refusal;
 mod words;

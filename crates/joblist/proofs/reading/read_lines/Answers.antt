@@ -5,8 +5,7 @@ use Rattle.std.proofs.lemmas.Iterator.Splits.{YieldsList-from_slice_split}
 use Rattle.std.proofs.lemmas.List.{length_push, map-append}
 use Rattle.joblist.specs.Lines.{words_of, says}
 use Rattle.joblist.specs.Entries.{value_of}
-use Rattle.joblist.specs.Passes.{LineRead}
-use Rattle.joblist.proofs.LineByLine.{parts, PartsRead, parts_none, part_skipped, part_read, part_refused, parts_all, line_read_at, parts_read_at, few_left}
+use Rattle.joblist.proofs.LineByLine.{parts, parts_none, part_skipped, part_read, part_refused, parts_all, line_read_at, parts_read_at, few_left}
 use Rattle.joblist.proofs.reading.read_lines.Goals as goal
 use Rattle.joblist.proofs.reading.read_lines.Goals.{In-Some}
 

@@ -1,4 +1,4 @@
-use Rattle.std.proofs.Common.{◌<◌, nat_lt, length, rules}
+use Rattle.std.proofs.Common.{nat_lt, length, rules}
 use borrow.Author.Tests.{tests}
 use Rattle.std.proofs.lemmas.Iterator.Consumers.{map_from_collect, YieldsList-at, YieldsList-from_filter}
 use Rattle.std.proofs.lemmas.Iterator.Splits.{YieldsList-from_slice_split}

@@ -1,0 +1,82 @@
+-- Lines that pass by themselves tell entries that a book takes.
+use Rattle.std.proofs.Common.{◌≡◌, ℕ, ◌<◌, ◌≤◌, Bool, true, false, not, ◌&&◌, nat_le, nat_lt, List, map, length, drop, take, get_or, vec_items, Vec, Some, None, Ok, Option, Result, sym, refl, ap, ◌∙◌, subst, ⊎_elim, arith}
+use Rattle.std.specs.Char.{is_ascii_digit}
+use Rattle.std.specs.List.{list_all}
+use Rattle.std.specs.Str.Parse.{digits_value}
+use Rattle.std.proofs.lemmas.Bool.{cases_lt, false≢true}
+use Rattle.std.proofs.lemmas.Bool.Decides.{nat_tests}
+use Rattle.std.proofs.lemmas.List.{get_or-map, length-map, length-take-le}
+use Rattle.std.specs.declared.alloc.Global.{Global}
+use Rattle.joblist.specs.declared.entry.Entry.{Entry as TheEntry}
+use Rattle.joblist.specs.declared.refusal.Fault.{Fault}
+use Rattle.joblist.specs.declared.refusal.Fault.TheVariants.{NoEntry, AmountRange, NameTaken, TooMany, ManyNeeds}
+use Rattle.joblist.specs.declared.refusal.JobRefusal.{JobRefusal}
+use Rattle.joblist.specs.Amounts.{is_amount}
+use Rattle.joblist.specs.Lines.{Line}
+use Rattle.joblist.specs.Entries.{Entry, no_line, no_entry, word, is_job, amounts, entry_of, value_of}
+use Rattle.joblist.specs.Faults.{tells_entry, is_taken, line_fault}
+use Rattle.joblist.specs.JobLists.{first_below, at_line, line_refusal}
+use Rattle.joblist.specs.Passes.{entries_of, LinesRead, Small, Sound}
+use Rattle.joblist.proofs.Firsts.{asked, first_each}
+
+-- no question refused this line
+record Passed (before : List Entry) (words : List (List ℕ)) : Type 0 where
+  amount : digits_value 10 (word words 2) ≤ 1000000
+  new : is_taken before (word words 1) ≡ false
+  few : length before < 4096
+  needs : length (drop 3 words) ≤ 4
+
+not_not : (b : Bool) → not b ≡ false → b ≡ true
+not_not true h = refl
+not_not false h = sym h
+
+second_too : (a b : Bool) → (a && b) ≡ true → b ≡ true
+second_too true b h = h
+second_too false b never = absurd (false≢true never)
+
+passed : (before : List Entry) (words : List (List ℕ)) → line_fault before words ≡ None → Passed before words
+passed before words none =
+    let first = asked (not (tells_entry words)) NoEntry _ none in
+    let second = asked (not (is_amount (word words 2))) AmountRange _ first.1 in
+    let third = asked (is_taken before (word words 1)) NameTaken _ second.1 in
+    let fourth = asked (nat_le 4096 (length before)) TooMany _ third.1 in
+    let fifth = asked (nat_lt 4 (length (drop 3 words))) ManyNeeds None fourth.1 in
+    let amount = second_too (list_all is_ascii_digit (word words 2)) (nat_le (digits_value 10 (word words 2)) 1000000) (not_not (is_amount (word words 2)) second.0) in
+    let room = fourth.0 in
+    let four = fifth.0 in
+    record { amount = grind (arith, nat_tests); new = third.0; few = grind (arith, nat_tests); needs = grind (arith, nat_tests) }
+
+-- a line without a refusal has no fault
+no_fault : (n : ℕ) (o : Option Fault) → at_line n o ≡ None → o ≡ None
+no_fault n None h = refl
+no_fault n (Some f) h = let never : ◌≡◌ {A = ℕ} 0 1 = cc in absurd (omega arith)
+
+line_passed : (ls : List Line) (k : ℕ) → first_below (length ls) (line_refusal ls) ≡ None → k < length ls → Passed (map entry_of (take k ls)) (get_or ls k no_line).words
+line_passed ls k none inside = passed _ _ (no_fault (get_or ls k no_line).number _ (first_each (line_refusal ls) (length ls) k none inside))
+
+-- both amounts of an entry are at most the one that its line tells
+small : (job : Bool) (x : ℕ) → x ≤ 1000000 → ((amounts job x).earning ≤ 1000000) × ((amounts job x).cost ≤ 1000000)
+small true x few = (few, omega arith)
+small false x few = (omega arith, few)
+
+pub sound : (ls : List Line) → first_below (length ls) (line_refusal ls) ≡ None → Sound (map entry_of ls)
+sound ls none = record {
+  few = ⊎_elim
+    (λ (more : 4096 < length ls). absurd (omega (arith, (line_passed ls 4096 none more).few, length-map (take 4096 ls) entry_of, length-take-le 4096 ls (omega arith))))
+    (λ (few : length ls ≤ 4096). omega (arith, length-map ls entry_of))
+    (cases_lt 4096 (length ls));
+  small = λ u there.
+    let inside : u < length ls = omega (arith, length-map ls entry_of) in
+    let l = get_or ls u no_line in
+    let both = small (is_job l.words) (digits_value 10 (word l.words 2)) (line_passed ls u none inside).amount in
+    subst Small (sym (get_or-map entry_of ls u no_line no_entry inside)) (record { earning = both.0; cost = both.1 });
+  needs = λ u there.
+    let inside : u < length ls = omega (arith, length-map ls entry_of) in
+    subst (λ (e : Entry). length e.needs ≤ 4) (sym (get_or-map entry_of ls u no_line no_entry inside)) (line_passed ls u none inside).needs;
+}
+
+-- so lines that were read tell such entries
+pub sound_read : (ls : List Line) (r : Result (Vec TheEntry Global) JobRefusal) (es : Vec TheEntry Global) (held : List TheEntry) → LinesRead ls (entries_of r) → r ≡ Ok es → held ≡ vec_items es → Sound (map value_of held)
+sound_read ls r es held read is same =
+    let whole = subst (λ o. LinesRead ls (entries_of o)) is read in
+    subst Sound (sym (ap (map value_of) same ∙ whole.1)) (sound ls whole.0)
