@@ -5,3 +5,8 @@ pub mod Entering
 pub mod Needing
 pub mod Ones
 pub mod Wholes
+-- Lemmas on writing.
+pub mod Bytes
+pub mod Ascending
+pub mod Sheets
+pub mod Back

@@ -28,15 +28,15 @@ use Rattle.filing.proofs.Filling.{filled_none, filled_on, filled_need}
 
 -- Lists of needs.
 
-needs_of_own : (u : ℕ) (ns : List ℕ) → needs_of u (needs_by u ns) ≡ ns
+pub needs_of_own : (u : ℕ) (ns : List ℕ) → needs_of u (needs_by u ns) ≡ ns
 needs_of_own u [] = refl
 needs_of_own u (w ∷ ns) = rw (eq-eqb u u refl) (ap (λ xs. w ∷ xs) (needs_of_own u ns))
 
-needs_of_other : (u v : ℕ) (ns : List ℕ) → (v ≡ u → ⊥) → needs_of u (needs_by v ns) ≡ []
+pub needs_of_other : (u v : ℕ) (ns : List ℕ) → (v ≡ u → ⊥) → needs_of u (needs_by v ns) ≡ []
 needs_of_other u v [] other = refl
 needs_of_other u v (w ∷ ns) other = rw (ne_eqb v u other) (needs_of_other u v ns other)
 
-needs_of_before : (u i : ℕ) (es : List Entry) → i + length es ≤ u → needs_of u (needs_from i es) ≡ []
+pub needs_of_before : (u i : ℕ) (es : List Entry) → i + length es ≤ u → needs_of u (needs_from i es) ≡ []
 needs_of_before u i [] below = refl
 needs_of_before u i (e ∷ es) below = rw (needs_of_both u (needs_by i e.needs) (needs_from (suc i) es), needs_of_other u i e.needs (λ is. omega arith)) (needs_of_before u (suc i) es (omega arith))
 

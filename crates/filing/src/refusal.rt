@@ -1,6 +1,6 @@
-// Why a sheet is not loaded, and what each refusal tells.
+// Why a sheet is not loaded or not written, and what each refusal tells.
 ghost use Rattle.std.specs.Prelude.{◌≡◌};
-ghost use Rattle.filing.specs.Refusals.{told};
+ghost use Rattle.filing.specs.Refusals.{told, question};
 ghost use Rattle.filing.specs.declared.refusal.LoadRefusal.TheVariants.{Sheet};
 
 use sheet::{SheetRefusal, Told};
@@ -38,6 +38,23 @@ impl LoadRefusal {
             number,
             record: 0,
             byte: 0,
+        }
+    }
+}
+
+#[derive(Clone, Copy, PartialEq, Eq, Debug)]
+pub enum WriteRefusal {
+    // the buffer is shorter than the sheet
+    ShortBuffer,
+}
+
+impl WriteRefusal {
+    // The number of the question whose answer is no; a rule of the project has a method answer it.
+    pub fn question(self) -> u8
+        ensures { result ≡ question self }
+    {
+        match self {
+            WriteRefusal::ShortBuffer => 20,
         }
     }
 }
