@@ -15,3 +15,5 @@ mod rows;
 mod runs;
 #[cfg(test)]
 mod sheets;
+#[cfg(test)]
+mod writes;
