@@ -277,6 +277,26 @@ pub(crate) fn is_the_shop(rt: &impl Abort, book: &SealedBook) {
     has(rt, book, &SHOP_NODES, &SHOP_ARCS);
 }
 
+// An entry's needs are answered in the order of entering. The records behind the last entry are arcs.
+#[test]
+fn what_entries_earn_cost_and_need(rt: HostRuntime) {
+    let mut table = [UNUSED; 12];
+    let mut book = open(&rt, &mut table, &SHOP, &SHOP_NEEDS);
+    assert_eq!(rt; book.need(1, 0), Ok(()));
+    let needs: [&[u16]; 4] = [&[2], &[2, 3, 0], &[], &[]];
+    for i in 0..4 {
+        let (earning, cost) = SHOP[i];
+        assert_eq!(rt; book.earning(i), Some(earning));
+        assert_eq!(rt; book.cost(i), Some(cost));
+        assert_eq!(rt; book.needs(i), needs[i]);
+    }
+    for i in [4, 12, usize::MAX] {
+        assert_eq!(rt; book.earning(i), None);
+        assert_eq!(rt; book.cost(i), None);
+        assert!(rt; book.needs(i).is_empty());
+    }
+}
+
 #[test]
 fn sealing_makes_the_network(rt: HostRuntime) {
     let mut table = [UNUSED; 13];
