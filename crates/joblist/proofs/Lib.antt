@@ -6,3 +6,4 @@ pub mod LineByLine
 pub mod EntryByEntry
 pub mod NameByName
 pub mod Soundness
+pub mod Writing

@@ -8,4 +8,5 @@ mod reading;
 mod refusal;
 mod words;
 
+pub use drafting::{MOST_BYTES, to_sheet};
 pub use refusal::{Fault, JobRefusal, Told};
