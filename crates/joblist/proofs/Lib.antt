@@ -7,3 +7,4 @@ pub mod EntryByEntry
 pub mod NameByName
 pub mod Soundness
 pub mod Writing
+pub mod Naming

@@ -28,11 +28,11 @@ use Rattle.joblist.proofs.Firsts.{asked, first_none, first_next, first_stays}
 
 -- Lists of needs.
 
-needs_of_own : (u : ℕ) (ns : List ℕ) → needs_of u (needs_by u ns) ≡ ns
+pub needs_of_own : (u : ℕ) (ns : List ℕ) → needs_of u (needs_by u ns) ≡ ns
 needs_of_own u [] = refl
 needs_of_own u (w ∷ ns) = rw (eq-eqb u u refl) (ap (λ xs. w ∷ xs) (needs_of_own u ns))
 
-needs_of_other : (u v : ℕ) (ns : List ℕ) → (v ≡ u → ⊥) → needs_of u (needs_by v ns) ≡ []
+pub needs_of_other : (u v : ℕ) (ns : List ℕ) → (v ≡ u → ⊥) → needs_of u (needs_by v ns) ≡ []
 needs_of_other u v [] other = refl
 needs_of_other u v (w ∷ ns) other = rw (ne_eqb v u other) (needs_of_other u v ns other)
 
@@ -73,7 +73,7 @@ needs_next all i (suc k) (e ∷ es) inside =
 -- Names and their numbers.
 
 -- a name whose number is there is that entry's
-named : (es : List Entry) (name : List ℕ) → number_of es name < length es → (get_or es (number_of es name) no_entry).name ≡ name
+pub named : (es : List Entry) (name : List ℕ) → number_of es name < length es → (get_or es (number_of es name) no_entry).name ≡ name
 named es name there = (bytes_eq-Decides (get_or es (number_of es name) no_entry).name name).0 (passes_at_first (λ e. bytes_eq e.name name) es no_entry there)
 
 neither : (a b : Bool) → (a || b) ≡ false → (a ≡ false) × (b ≡ false)
@@ -110,12 +110,12 @@ names_none es u s = record {
 }
 
 -- what a name without a fault is
-record Fine (es : List Entry) (u : ℕ) (before : List (List ℕ)) (name : List ℕ) : Type 0 where
-  known : number_of es name < length es
-  other : u ≡ number_of es name → ⊥
-  new : is_among before name ≡ false
+pub record Fine (es : List Entry) (u : ℕ) (before : List (List ℕ)) (name : List ℕ) : Type 0 where
+  pub known : number_of es name < length es
+  pub other : u ≡ number_of es name → ⊥
+  pub new : is_among before name ≡ false
 
-fine : (es : List Entry) (u : ℕ) (before : List (List ℕ)) (name : List ℕ) → need_fault es u before name ≡ None → Fine es u before name
+pub fine : (es : List Entry) (u : ℕ) (before : List (List ℕ)) (name : List ℕ) → need_fault es u before name ≡ None → Fine es u before name
 fine es u before name none =
     let first = asked (nat_le (length es) (number_of es name)) Unknown _ none in
     let second = asked (number_of es name == u) Itself _ first.1 in

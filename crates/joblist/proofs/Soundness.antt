@@ -20,11 +20,11 @@ use Rattle.joblist.specs.Passes.{entries_of, LinesRead, Small, Sound}
 use Rattle.joblist.proofs.Firsts.{asked, first_each}
 
 -- no question refused this line
-record Passed (before : List Entry) (words : List (List ℕ)) : Type 0 where
-  amount : digits_value 10 (word words 2) ≤ 1000000
-  new : is_taken before (word words 1) ≡ false
-  few : length before < 4096
-  needs : length (drop 3 words) ≤ 4
+pub record Passed (before : List Entry) (words : List (List ℕ)) : Type 0 where
+  pub amount : digits_value 10 (word words 2) ≤ 1000000
+  pub new : is_taken before (word words 1) ≡ false
+  pub few : length before < 4096
+  pub needs : length (drop 3 words) ≤ 4
 
 not_not : (b : Bool) → not b ≡ false → b ≡ true
 not_not true h = refl
@@ -47,11 +47,11 @@ passed before words none =
     record { amount = grind (arith, nat_tests); new = third.0; few = grind (arith, nat_tests); needs = grind (arith, nat_tests) }
 
 -- a line without a refusal has no fault
-no_fault : (n : ℕ) (o : Option Fault) → at_line n o ≡ None → o ≡ None
+pub no_fault : (n : ℕ) (o : Option Fault) → at_line n o ≡ None → o ≡ None
 no_fault n None h = refl
 no_fault n (Some f) h = let never : ◌≡◌ {A = ℕ} 0 1 = cc in absurd (omega arith)
 
-line_passed : (ls : List Line) (k : ℕ) → first_below (length ls) (line_refusal ls) ≡ None → k < length ls → Passed (map entry_of (take k ls)) (get_or ls k no_line).words
+pub line_passed : (ls : List Line) (k : ℕ) → first_below (length ls) (line_refusal ls) ≡ None → k < length ls → Passed (map entry_of (take k ls)) (get_or ls k no_line).words
 line_passed ls k none inside = passed _ _ (no_fault (get_or ls k no_line).number _ (first_each (line_refusal ls) (length ls) k none inside))
 
 -- both amounts of an entry are at most the one that its line tells

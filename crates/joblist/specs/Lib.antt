@@ -5,6 +5,7 @@ pub mod Entries
 pub mod Refusals
 pub mod Faults
 pub mod JobLists
+pub mod Names
 pub mod Drafts
 pub mod Texts
 -- What inner functions agree on.
