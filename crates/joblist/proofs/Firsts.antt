@@ -1,7 +1,8 @@
 -- The first of many, and questions that are put one after another.
-use Rattle.std.proofs.Common.{◌≡◌, Bool, true, false, cond, ℕ, zero, suc, ◌+◌, ◌<◌, ◌≤◌, ◌-◌, Some, None, Option, refl, sym, subst, ⊎_elim, arith}
+use Rattle.std.proofs.Common.{◌≡◌, Bool, true, false, not, cond, ℕ, zero, suc, ◌+◌, ◌<◌, ◌≤◌, ◌-◌, Some, None, Option, refl, sym, subst, ⊎_elim, arith}
 use Rattle.std.specs.Option.{option_or}
 use Rattle.std.proofs.lemmas.Bool.{cases_lt}
+use Rattle.joblist.specs.declared.refusal.Fault.{Fault}
 use Rattle.joblist.specs.JobLists.{first_below}
 
 -- there is none below 0
@@ -25,10 +26,10 @@ first_further f n (suc k) x is =
 pub first_stays : {A : Type 0} (f : ℕ → Option A) (n m : ℕ) (x : A) → n ≤ m → first_below n f ≡ Some x → first_below m f ≡ Some x
 first_stays f n m x le is = let e : n + (m - n) ≡ m = omega arith in subst (λ k. first_below k f ≡ Some x) e (first_further f n (m - n) x is)
 
--- where no question refuses, the first does not, nor do the others
-pub asked : {A : Type 0} (b : Bool) (x : A) (o : Option A) → cond b (Some x) o ≡ None → (b ≡ false) × (o ≡ None)
-asked true x o never = let no : ◌≡◌ {A = ℕ} 0 1 = cc in absurd (omega arith)
-asked false x o none = (refl, none)
+-- where no answer is no, the first is yes, and so are the others
+pub asked : (answer : Bool) (f : Fault) (o : Option Fault) → cond answer o (Some f) ≡ None → (answer ≡ true) × (o ≡ None)
+asked true f o none = (refl, none)
+asked false f o never = let no : ◌≡◌ {A = ℕ} 0 1 = cc in absurd (omega arith)
 
 -- where there is none below n, none of them is there
 neither_first : {A : Type 0} (o p : Option A) → option_or o p ≡ None → (o ≡ None) × (p ≡ None)
@@ -41,6 +42,10 @@ first_each f zero k none below = absurd (omega arith)
 first_each f (suc n) k none below =
     let both = neither_first (first_below n f) (f n) none in
     ⊎_elim
-      (λ (earlier : k < n). first_each f n k both.0 earlier)
-      (λ (last : n ≤ k). let is : n ≡ k = omega arith in subst (λ j. f j ≡ None) is both.1)
-      (cases_lt k n)
+    (λ (earlier : k < n). first_each f n k both.0 earlier)
+    (λ (last : n ≤ k). let is : n ≡ k = omega arith in subst (λ j. f j ≡ None) is both.1)
+    (cases_lt k n)
+
+pub not_true : (b : Bool) → not b ≡ true → b ≡ false
+not_true true h = sym h
+not_true false h = refl

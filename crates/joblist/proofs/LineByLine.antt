@@ -8,10 +8,10 @@ use Rattle.joblist.specs.declared.entry.Entry.{Entry as TheEntry}
 use Rattle.joblist.specs.declared.refusal.Fault.{Fault}
 use Rattle.joblist.specs.declared.refusal.JobRefusal.TheVariants.{Faulty}
 use Rattle.joblist.specs.Lines.{Line, numbered, says, lines_of}
-use Rattle.joblist.specs.Entries.{Entry, no_line, entry_of, value_of}
+use Rattle.joblist.specs.Entries.{Entry, no_line, entry_of}
 use Rattle.joblist.specs.Faults.{line_fault}
 use Rattle.joblist.specs.JobLists.{first_below, at_line, line_refusal}
-use Rattle.joblist.specs.Passes.{LineRead, LinesRead}
+use Rattle.joblist.specs.Passes.{value_of, LineRead, LinesRead}
 use Rattle.joblist.proofs.Firsts.{first_none, first_next, first_stays}
 
 -- the parts of a text, each with its place

@@ -1,5 +1,5 @@
 -- The third pass: what entries need, name by name.
-use Rattle.std.proofs.Common.{◌≡◌, Bor, ℕ, zero, suc, ◌+◌, ◌*◌, ◌<◌, ◌≤◌, true, false, Bool, ◌||◌, ◌==◌, nat_le, List, [], ◌∷◌, ◌++◌, map, length, get_or, take, Some, None, Ok, Err, Option, Result, sym, refl, ap, ◌∙◌, subst, arith}
+use Rattle.std.proofs.Common.{◌≡◌, nat_lt, not, Bor, ℕ, zero, suc, ◌+◌, ◌*◌, ◌<◌, ◌≤◌, true, false, Bool, ◌||◌, ◌==◌, List, [], ◌∷◌, ◌++◌, map, length, get_or, take, Some, None, Ok, Err, Option, Result, sym, refl, ap, ◌∙◌, subst, arith}
 use Rattle.std.specs.Result.{is_ok}
 use Rattle.std.specs.Str.{bytes_eq}
 use Rattle.std.proofs.lemmas.Bool.{eq-eqb, ne_eqb, false≢true}
@@ -24,7 +24,7 @@ use Rattle.joblist.specs.Entries.{Entry, no_entry}
 use Rattle.joblist.specs.Faults.{is_among, number_of, need_fault}
 use Rattle.joblist.specs.JobLists.{first_below, at_line, name_fault, needs_refusal, needs_from}
 use Rattle.joblist.specs.Passes.{Sound, NeedsFit, NeedsEntered, AllNeedsEntered, numbers_of, with_entries, with_needs_of}
-use Rattle.joblist.proofs.Firsts.{asked, first_none, first_next, first_stays}
+use Rattle.joblist.proofs.Firsts.{asked, not_true, first_none, first_next, first_stays}
 
 -- Lists of needs.
 
@@ -117,12 +117,12 @@ pub record Fine (es : List Entry) (u : ℕ) (before : List (List ℕ)) (name : L
 
 pub fine : (es : List Entry) (u : ℕ) (before : List (List ℕ)) (name : List ℕ) → need_fault es u before name ≡ None → Fine es u before name
 fine es u before name none =
-    let first = asked (nat_le (length es) (number_of es name)) Unknown _ none in
-    let second = asked (number_of es name == u) Itself _ first.1 in
-    let third = asked (is_among before name) Repeated None second.1 in
-    let here = first.0 in
-    let there = second.0 in
-    record { known = grind (arith, nat_tests); other = λ is. grind (arith, nat_tests); new = third.0 }
+    let first = asked (nat_lt (number_of es name) (length es)) Unknown _ none in
+    let second = asked (not (number_of es name == u)) Itself _ first.1 in
+    let third = asked (not (is_among before name)) Repeated None second.1 in
+    let there = first.0 in
+    let other = not_true (number_of es name == u) second.0 in
+    record { known = grind (arith, nat_tests); other = λ is. grind (arith, nat_tests); new = not_true (is_among before name) third.0 }
 
 -- no question refuses it
 no_refusal : (u w : ℕ) (already : List ℕ) (entries spare : ℕ) → Needs u w already entries spare → need_refusal u w already entries spare ≡ None
@@ -169,11 +169,10 @@ passes es u k s t fits entered inside none =
 -- What is found of the names that the code holds is found of the entry's.
 
 names_at : (es : List Entry) (u : ℕ) (names : List (Bor (List ℕ))) (k : ℕ) (d : Bor (List ℕ)) → (get_or es u no_entry).needs ≡ map (λ name. name.now) names → k < length names → (map (λ name. name.now) (take k names) ≡ take k (get_or es u no_entry).needs) × ((get_or names k d).now ≡ get_or (get_or es u no_entry).needs k [])
-names_at es u names k d are inside =
-    (
-      sym (ap (take k) are ∙ take-map (λ (name : Bor (List ℕ)). name.now) k names),
-      sym (ap (λ ws. get_or ws k []) are ∙ get_or-map (λ (name : Bor (List ℕ)). name.now) names k d [] inside),
-    )
+names_at es u names k d are inside = (
+  sym (ap (take k) are ∙ take-map (λ (name : Bor (List ℕ)). name.now) k names),
+  sym (ap (λ ws. get_or ws k []) are ∙ get_or-map (λ (name : Bor (List ℕ)). name.now) names k d [] inside),
+)
 
 pub fault_found : (es : List Entry) (u : ℕ) (names : List (Bor (List ℕ))) (k : ℕ) (d : Bor (List ℕ)) → (get_or es u no_entry).needs ≡ map (λ name. name.now) names → k < length names → need_fault es u (map (λ name. name.now) (take k names)) (get_or names k d).now ≡ fault_at es u k
 fault_found es u names k d are inside =

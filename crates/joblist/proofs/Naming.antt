@@ -1,5 +1,5 @@
 -- The names of an accepted job list.
-use Rattle.std.proofs.Common.{◌≡◌, ℕ, zero, suc, ◌+◌, ◌<◌, ◌≤◌, Bool, true, false, cond, nat_lt, List, [], ◌∷◌, ◌++◌, map, length, get_or, take, Some, None, Ok, Err, Option, Result, sym, refl, ap, ◌∙◌, subst, ⊎_elim, arith}
+use Rattle.std.proofs.Common.{◌≡◌, ℕ, zero, suc, ◌+◌, ◌<◌, ◌≤◌, Bool, true, false, cond, nat_lt, List, [], ◌∷◌, map, length, get_or, take, Some, None, Ok, Err, Option, Result, sym, refl, ap, ◌∙◌, subst, ⊎_elim, arith}
 use Rattle.std.specs.List.{AllByRecursion}
 use Rattle.std.specs.Str.{bytes_eq}
 use Rattle.std.proofs.lemmas.Bool.{cases_lt, false≢true}
@@ -53,9 +53,9 @@ distinct : (ls : List Line) (u v : ℕ) → first_below (length ls) (line_refusa
 distinct ls u v none first second same = ⊎_elim
     (λ (earlier : u < v). absurd (never_again ls u v none earlier second same))
     (λ (not_earlier : v ≤ u). ⊎_elim
-      (λ (later : v < u). absurd (never_again ls v u none later first (sym same)))
-      (λ (not_later : u ≤ v). omega arith)
-      (cases_lt v u))
+    (λ (later : v < u). absurd (never_again ls v u none later first (sym same)))
+    (λ (not_later : u ≤ v). omega arith)
+    (cases_lt v u))
     (cases_lt u v)
 
 -- What an entry needs.

@@ -13,11 +13,11 @@ use Rattle.joblist.specs.declared.refusal.Fault.TheVariants.{NoEntry, AmountRang
 use Rattle.joblist.specs.declared.refusal.JobRefusal.{JobRefusal}
 use Rattle.joblist.specs.Amounts.{is_amount}
 use Rattle.joblist.specs.Lines.{Line}
-use Rattle.joblist.specs.Entries.{Entry, no_line, no_entry, word, is_job, amounts, entry_of, value_of}
+use Rattle.joblist.specs.Entries.{Entry, no_line, no_entry, word, is_job, amounts, entry_of}
 use Rattle.joblist.specs.Faults.{tells_entry, is_taken, line_fault}
 use Rattle.joblist.specs.JobLists.{first_below, at_line, line_refusal}
-use Rattle.joblist.specs.Passes.{entries_of, LinesRead, Small, Sound}
-use Rattle.joblist.proofs.Firsts.{asked, first_each}
+use Rattle.joblist.specs.Passes.{value_of, entries_of, LinesRead, Small, Sound}
+use Rattle.joblist.proofs.Firsts.{asked, not_true, first_each}
 
 -- no question refused this line
 pub record Passed (before : List Entry) (words : List (List ℕ)) : Type 0 where
@@ -26,25 +26,21 @@ pub record Passed (before : List Entry) (words : List (List ℕ)) : Type 0 where
   pub few : length before < 4096
   pub needs : length (drop 3 words) ≤ 4
 
-not_not : (b : Bool) → not b ≡ false → b ≡ true
-not_not true h = refl
-not_not false h = sym h
-
 second_too : (a b : Bool) → (a && b) ≡ true → b ≡ true
 second_too true b h = h
 second_too false b never = absurd (false≢true never)
 
 passed : (before : List Entry) (words : List (List ℕ)) → line_fault before words ≡ None → Passed before words
 passed before words none =
-    let first = asked (not (tells_entry words)) NoEntry _ none in
-    let second = asked (not (is_amount (word words 2))) AmountRange _ first.1 in
-    let third = asked (is_taken before (word words 1)) NameTaken _ second.1 in
-    let fourth = asked (nat_le 4096 (length before)) TooMany _ third.1 in
-    let fifth = asked (nat_lt 4 (length (drop 3 words))) ManyNeeds None fourth.1 in
-    let amount = second_too (list_all is_ascii_digit (word words 2)) (nat_le (digits_value 10 (word words 2)) 1000000) (not_not (is_amount (word words 2)) second.0) in
+    let first = asked (tells_entry words) NoEntry _ none in
+    let second = asked (is_amount (word words 2)) AmountRange _ first.1 in
+    let third = asked (not (is_taken before (word words 1))) NameTaken _ second.1 in
+    let fourth = asked (nat_lt (length before) 4096) TooMany _ third.1 in
+    let fifth = asked (nat_le (length (drop 3 words)) 4) ManyNeeds None fourth.1 in
+    let amount = second_too (list_all is_ascii_digit (word words 2)) (nat_le (digits_value 10 (word words 2)) 1000000) second.0 in
     let room = fourth.0 in
     let four = fifth.0 in
-    record { amount = grind (arith, nat_tests); new = third.0; few = grind (arith, nat_tests); needs = grind (arith, nat_tests) }
+    record { amount = grind (arith, nat_tests); new = not_true (is_taken before (word words 1)) third.0; few = grind (arith, nat_tests); needs = grind (arith, nat_tests) }
 
 -- a line without a refusal has no fault
 pub no_fault : (n : ℕ) (o : Option Fault) → at_line n o ≡ None → o ≡ None
@@ -62,17 +58,17 @@ small false x few = (omega arith, few)
 pub sound : (ls : List Line) → first_below (length ls) (line_refusal ls) ≡ None → Sound (map entry_of ls)
 sound ls none = record {
   few = ⊎_elim
-    (λ (more : 4096 < length ls). absurd (omega (arith, (line_passed ls 4096 none more).few, length-map (take 4096 ls) entry_of, length-take-le 4096 ls (omega arith))))
-    (λ (few : length ls ≤ 4096). omega (arith, length-map ls entry_of))
-    (cases_lt 4096 (length ls));
+      (λ (more : 4096 < length ls). absurd (omega (arith, (line_passed ls 4096 none more).few, length-map (take 4096 ls) entry_of, length-take-le 4096 ls (omega arith))))
+      (λ (few : length ls ≤ 4096). omega (arith, length-map ls entry_of))
+      (cases_lt 4096 (length ls));
   small = λ u there.
-    let inside : u < length ls = omega (arith, length-map ls entry_of) in
-    let l = get_or ls u no_line in
-    let both = small (is_job l.words) (digits_value 10 (word l.words 2)) (line_passed ls u none inside).amount in
-    subst Small (sym (get_or-map entry_of ls u no_line no_entry inside)) (record { earning = both.0; cost = both.1 });
+      let inside : u < length ls = omega (arith, length-map ls entry_of) in
+      let l = get_or ls u no_line in
+      let both = small (is_job l.words) (digits_value 10 (word l.words 2)) (line_passed ls u none inside).amount in
+      subst Small (sym (get_or-map entry_of ls u no_line no_entry inside)) (record { earning = both.0; cost = both.1 });
   needs = λ u there.
-    let inside : u < length ls = omega (arith, length-map ls entry_of) in
-    subst (λ (e : Entry). length e.needs ≤ 4) (sym (get_or-map entry_of ls u no_line no_entry inside)) (line_passed ls u none inside).needs;
+      let inside : u < length ls = omega (arith, length-map ls entry_of) in
+      subst (λ (e : Entry). length e.needs ≤ 4) (sym (get_or-map entry_of ls u no_line no_entry inside)) (line_passed ls u none inside).needs;
 }
 
 -- so lines that were read tell such entries

@@ -1,9 +1,8 @@
 -- The entries that the lines of a job list tell.
-use Rattle.std.specs.Prelude.{ℕ, Bool, cond, List, [], map, drop, codes, vec_items, slice_index_or}
+use Rattle.std.specs.Prelude.{ℕ, Bool, cond, List, [], drop, codes, slice_index_or}
 use Rattle.std.specs.Str.{bytes_eq}
 use Rattle.std.specs.Str.Parse.{digits_value}
 use Rattle.book.specs.Books.{Amounts, no_amounts}
-use Rattle.joblist.specs.declared.entry.Entry.{Entry as TheEntry}
 use Rattle.joblist.specs.Lines.{Line}
 
 -- an entry: the number of its line, its name, what it earns and costs, and the names of what it needs
@@ -37,12 +36,3 @@ amounts job x = record { earning = cond job x 0; cost = cond job 0 x }
 -- the entry that a line tells: `job` or `set-up`, the name, the amount, and the names of what it needs
 abbrev pub entry_of : Line → Entry
 entry_of l = record { line = l.number; name = word l.words 1; amounts = amounts (is_job l.words) (digits_value 10 (word l.words 2)); needs = drop 3 l.words }
-
--- the entry that the code holds
-abbrev pub value_of : TheEntry → Entry
-value_of e = record {
-  line = e.line;
-  name = e.name.now;
-  amounts = record { earning = e.earning; cost = e.cost };
-  needs = map (λ name. name.now) (vec_items e.needs);
-}

@@ -1,11 +1,16 @@
 -- The questions that are put to a line: the first whose answer is no.
-use Rattle.std.specs.Prelude.{ℕ, Bool, cond, not, ◌&&◌, ◌||◌, ◌==◌, nat_le, nat_lt, List, length, drop, Some, None, Option}
+use Rattle.std.specs.Prelude.{ℕ, Bool, cond, not, ◌&&◌, ◌||◌, ◌==◌, nat_le, nat_lt, List, [], ◌∷◌, length, drop, Some, None, Option}
 use Rattle.std.specs.List.{list_any, position_or_len}
 use Rattle.std.specs.Str.{bytes_eq}
 use Rattle.joblist.specs.declared.refusal.Fault.{Fault}
 use Rattle.joblist.specs.declared.refusal.Fault.TheVariants.{NoEntry, AmountRange, NameTaken, TooMany, ManyNeeds, Unknown, Itself, Repeated}
 use Rattle.joblist.specs.Amounts.{is_amount}
 use Rattle.joblist.specs.Entries.{Entry, word, is_job, is_set_up}
+
+-- of some questions, each with its answer and the fault that it finds where that is no: the first fault
+abbrev pub first_no : List (Bool × Fault) → Option Fault
+first_no [] = None
+first_no ((answer, f) ∷ more) = cond answer (first_no more) (Some f)
 
 -- whether words are those of an entry: `job` or `set-up`, then a name and an amount
 abbrev pub tells_entry : List (List ℕ) → Bool
@@ -17,8 +22,14 @@ is_taken es name = list_any (λ e. bytes_eq e.name name) es
 
 -- put to a line of these words by itself, where these entries stand on the lines before it
 abbrev pub line_fault : List Entry → List (List ℕ) → Option Fault
-line_fault before words =
-    cond (not (tells_entry words)) (Some NoEntry) (cond (not (is_amount (word words 2))) (Some AmountRange) (cond (is_taken before (word words 1)) (Some NameTaken) (cond (nat_le 4096 (length before)) (Some TooMany) (cond (nat_lt 4 (length (drop 3 words))) (Some ManyNeeds) None))))
+line_fault before words = first_no (
+    (tells_entry words, NoEntry)
+    ∷ (is_amount (word words 2), AmountRange)
+    ∷ (not (is_taken before (word words 1)), NameTaken)
+    ∷ (nat_lt (length before) 4096, TooMany)
+    ∷ (nat_le (length (drop 3 words)) 4, ManyNeeds)
+    ∷ []
+    )
 
 -- the number of the first entry with this name; how many there are, where none has it
 abbrev pub number_of : List Entry → List ℕ → ℕ
@@ -30,5 +41,9 @@ is_among names name = list_any (λ other. bytes_eq other name) names
 
 -- put to a name that entry number u needs, where its line names these before it
 abbrev pub need_fault : List Entry → ℕ → List (List ℕ) → List ℕ → Option Fault
-need_fault es u before name =
-    cond (nat_le (length es) (number_of es name)) (Some Unknown) (cond (number_of es name == u) (Some Itself) (cond (is_among before name) (Some Repeated) None))
+need_fault es u before name = first_no (
+    (nat_lt (number_of es name) (length es), Unknown)
+    ∷ (not (number_of es name == u), Itself)
+    ∷ (not (is_among before name), Repeated)
+    ∷ []
+    )

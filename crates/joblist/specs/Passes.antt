@@ -8,9 +8,18 @@ use Rattle.joblist.specs.declared.entry.Entry.{Entry as TheEntry}
 use Rattle.joblist.specs.declared.refusal.Fault.{Fault}
 use Rattle.joblist.specs.declared.refusal.JobRefusal.{JobRefusal}
 use Rattle.joblist.specs.Lines.{Line}
-use Rattle.joblist.specs.Entries.{Entry, no_entry, entry_of, value_of}
+use Rattle.joblist.specs.Entries.{Entry, no_entry, entry_of}
 use Rattle.joblist.specs.Faults.{line_fault, number_of}
 use Rattle.joblist.specs.JobLists.{first_below, line_refusal, name_fault, needs_refusal, needs_from, book_of, book_of_text}
+
+-- the entry that the code holds
+abbrev pub value_of : TheEntry → Entry
+value_of e = record {
+  line = e.line;
+  name = e.name.now;
+  amounts = record { earning = e.earning; cost = e.cost };
+  needs = map (λ name. name.now) (vec_items e.needs);
+}
 
 -- the line l is read, where these entries stand on the lines before it
 abbrev pub LineRead : List Entry → Line → Result TheEntry Fault → Type 0

@@ -4,9 +4,8 @@ ghost use Rattle.std.specs.Result.{result_err};
 ghost use Rattle.book.specs.Books.{empty};
 ghost use Rattle.book.specs.Values.{open_of};
 ghost use Rattle.filing.specs.Passes.{Filled};
-ghost use Rattle.joblist.specs.Entries.{value_of};
 ghost use Rattle.joblist.specs.Faults.{is_among, number_of, need_fault};
-ghost use Rattle.joblist.specs.Passes.{place_of, Sound, NeedsFit, NeedsEntered, with_entries, with_needs_of, AllNeedsEntered};
+ghost use Rattle.joblist.specs.Passes.{value_of, place_of, Sound, NeedsFit, NeedsEntered, with_entries, with_needs_of, AllNeedsEntered};
 
 use super::entry::Entry;
 use super::refusal::{Fault, JobRefusal};
@@ -56,12 +55,7 @@ fn enter_needs(book: &mut OpenBook, entries: &[Entry], number: usize) -> Result<
 }
 
 // The number of the entry with a name, which another entry needs, whose line names others before it.
-fn find(
-    entries: &[Entry],
-    number: usize,
-    before: &[&[u8]],
-    name: &[u8],
-) -> Result<usize, Fault>
+fn find(entries: &[Entry], number: usize, before: &[&[u8]], name: &[u8]) -> Result<usize, Fault>
     ensures fault { result_err result ≡ need_fault (map value_of entries.now) number (map (λ other. other.now) before.now) name.now }
     ensures number { IfOk result (λ needed. needed ≡ number_of (map value_of entries.now) name.now) }
 {

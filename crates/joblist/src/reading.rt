@@ -2,10 +2,10 @@
 ghost use Rattle.std.specs.Prelude.{◌≡◌, ◌≤◌, length, map, IfOk};
 ghost use Rattle.std.specs.Result.{result_err};
 ghost use Rattle.std.specs.Str.Parse.{digits_value};
-ghost use Rattle.joblist.specs.Entries.{value_of, word};
+ghost use Rattle.joblist.specs.Entries.{word};
 ghost use Rattle.joblist.specs.Lines.{lines_of};
 ghost use Rattle.joblist.specs.Faults.{tells_entry, is_taken, line_fault};
-ghost use Rattle.joblist.specs.Passes.{LineRead, LinesRead, entries_of};
+ghost use Rattle.joblist.specs.Passes.{value_of, LineRead, LinesRead, entries_of};
 
 use super::entry::Entry;
 use super::refusal::{Fault, JobRefusal};
@@ -14,10 +14,12 @@ use std::alloc::{AllocError, Global};
 
 // The most entries of a job list, and the most needs of one: those of a book, whose crate keeps them to itself.
 const MOST_ENTRIES: usize = 4_096;
+
 const MOST_NEEDS: usize = 4;
 
 // The words that begin the line of an entry.
 const JOB: &[u8] = b"job";
+
 const SET_UP: &[u8] = b"set-up";
 
 // How many words stand before the names of what an entry needs.
@@ -70,7 +72,11 @@ fn read_line<'a>(
         Ok(amount) => amount,
         Err(fault) => return Ok(Err(fault)),
     };
-    let (earning, cost) = if words[0] == JOB { (amount, 0) } else { (0, amount) };
+    let (earning, cost) = if words[0] == JOB {
+        (amount, 0)
+    } else {
+        (0, amount)
+    };
     let needs = words[FIRST_NEED..].iter().copied().collect(heap)?;
     Ok(Ok(Entry {
         line,

@@ -70,10 +70,7 @@ pub enum JobRefusal {
     // the text has more than 1,048,576 bytes
     TooLong,
     // a line has a fault
-    Faulty {
-        fault: Fault,
-        line: usize,
-    },
+    Faulty { fault: Fault, line: usize },
 }
 
 // What a refusal tells: the number of the question whose answer is no, and of the line that it is about, from 1; 0 stands for the text.

@@ -2,9 +2,10 @@ use Rattle.std.proofs.Common.{◌<◌, map, length, subst, arith}
 use Rattle.std.proofs.lemmas.List.{length-map}
 use Rattle.book.specs.Calls.{Entered}
 use Rattle.book.specs.Values.{open_of}
-use Rattle.joblist.specs.Entries.{no_entry, value_of}
+use Rattle.joblist.specs.Entries.{no_entry}
 use Rattle.joblist.proofs.Lists.{value_at}
 use Rattle.joblist.proofs.EntryByEntry.{enters, entered_more}
+use Rattle.joblist.specs.Passes.{value_of}
 use Rattle.joblist.proofs.filling.enter_all.Goals as goal
 
 pub unwrap-requires : goal.unwrap-requires

@@ -1,8 +1,7 @@
 use Rattle.std.proofs.Common.{map, take}
 use Rattle.book.specs.Values.{open_of}
 use Rattle.filing.specs.Passes.{Filled}
-use Rattle.joblist.specs.Entries.{value_of}
-use Rattle.joblist.specs.Passes.{with_entries}
+use Rattle.joblist.specs.Passes.{value_of, with_entries}
 use Rattle.joblist.proofs.filling.enter_all.Given as goal
 
 -- the entries so far are entered

@@ -3,10 +3,11 @@ use Rattle.std.proofs.lemmas.List.{length-map}
 use Rattle.std.proofs.lemmas.Result.{err_from_is_err_and}
 use Rattle.book.specs.Calls.{Needed}
 use Rattle.book.specs.Values.{open_of}
-use Rattle.joblist.specs.Entries.{no_entry, value_of}
+use Rattle.joblist.specs.Entries.{no_entry}
 use Rattle.joblist.proofs.Lists.{value_at}
 use Rattle.joblist.proofs.NameByName.{names_none, fault_found, number_found, name_enters, name_entered, name_refused}
 use Rattle.joblist.proofs.filling.enter_needs.Goals as goal
+use Rattle.joblist.specs.Passes.{value_of}
 use Rattle.joblist.proofs.filling.enter_needs.Goals.{After-find}
 
 -- the names that the code holds are the entry's

@@ -1,7 +1,7 @@
 use Rattle.std.proofs.Common.{map}
 use Rattle.book.specs.Values.{open_of}
-use Rattle.joblist.specs.Entries.{value_of}
 use Rattle.joblist.proofs.NameByName.{NamesEntered}
+use Rattle.joblist.specs.Passes.{value_of}
 use Rattle.joblist.proofs.filling.enter_needs.Given as goal
 
 -- the names so far are entered

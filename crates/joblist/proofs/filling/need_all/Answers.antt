@@ -2,8 +2,8 @@ use Rattle.std.proofs.Common.{◌<◌, map, length, Some, ap, ◌∙◌, subst, 
 use Rattle.std.proofs.lemmas.List.{length-map}
 use Rattle.book.specs.Values.{open_of}
 use Rattle.joblist.specs.declared.refusal.JobRefusal.TheVariants.{Faulty}
-use Rattle.joblist.specs.Entries.{Entry, no_entry, value_of}
-use Rattle.joblist.specs.Passes.{NeedsEntered}
+use Rattle.joblist.specs.Entries.{Entry, no_entry}
+use Rattle.joblist.specs.Passes.{value_of, NeedsEntered}
 use Rattle.joblist.proofs.Lists.{value_at}
 use Rattle.joblist.proofs.NameByName.{needs_none, needs_entered, needs_refused}
 use Rattle.joblist.proofs.filling.need_all.Goals as goal

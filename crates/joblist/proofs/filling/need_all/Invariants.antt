@@ -1,7 +1,7 @@
 use Rattle.std.proofs.Common.{map}
 use Rattle.book.specs.Values.{open_of}
-use Rattle.joblist.specs.Entries.{value_of}
 use Rattle.joblist.proofs.NameByName.{NeedsSoFar}
+use Rattle.joblist.specs.Passes.{value_of}
 use Rattle.joblist.proofs.filling.need_all.Given as goal
 
 -- what the entries so far need is entered

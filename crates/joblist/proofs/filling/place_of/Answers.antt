@@ -5,8 +5,8 @@ use Rattle.std.proofs.lemmas.Iterator.{YieldsList-from_slice}
 use Rattle.std.proofs.lemmas.Iterator.Search.{position_from_yields_List}
 use Rattle.std.proofs.lemmas.List.{length-map}
 use Rattle.joblist.specs.declared.entry.Entry.{Entry}
-use Rattle.joblist.specs.Entries.{value_of}
 use Rattle.joblist.proofs.Lists.{position_map}
+use Rattle.joblist.specs.Passes.{value_of}
 use Rattle.joblist.proofs.filling.place_of.Goals as goal
 
 pub returns : goal.returns

@@ -4,8 +4,8 @@ use Rattle.std.specs.Str.{bytes_eq}
 use Rattle.std.proofs.lemmas.Iterator.{YieldsList-from_slice}
 use Rattle.std.proofs.lemmas.Iterator.Search.{any_from_yields_List}
 use Rattle.joblist.specs.declared.entry.Entry.{Entry}
-use Rattle.joblist.specs.Entries.{value_of}
 use Rattle.joblist.proofs.Lists.{list_any_map}
+use Rattle.joblist.specs.Passes.{value_of}
 use Rattle.joblist.proofs.reading.is_taken.Goals as goal
 
 pub returns : goal.returns

@@ -4,9 +4,9 @@ use Rattle.std.proofs.lemmas.Iterator.Consumers.{YieldsList-at, YieldsList-from_
 use Rattle.std.proofs.lemmas.Iterator.Splits.{YieldsList-from_slice_split}
 use Rattle.std.proofs.lemmas.List.{length_push, map-append}
 use Rattle.joblist.specs.Lines.{words_of, says}
-use Rattle.joblist.specs.Entries.{value_of}
 use Rattle.joblist.proofs.LineByLine.{parts, parts_none, part_skipped, part_read, part_refused, parts_all, line_read_at, parts_read_at, few_left}
 use Rattle.joblist.proofs.reading.read_lines.Goals as goal
+use Rattle.joblist.specs.Passes.{value_of}
 use Rattle.joblist.proofs.reading.read_lines.Goals.{In-Some}
 
 -- the part that this turn is about, and where it stands
@@ -24,8 +24,7 @@ pub loop-place-init : goal.loop-place-init
 loop-place-init c =
     let gives = c.into_iter-place-iterator.ensures.into_iter_gives in
     let count : c.into_iter-place-iterator.result.count ≡ 0 = cc in
-    let rest : c.into_iter-place-iterator.result.iter.rest.now ≡ c.args.text.now = cc in
-    (
+    let rest : c.into_iter-place-iterator.result.iter.rest.now ≡ c.args.text.now = cc in (
       (search of_calls, tt, inl (few_left c.into_iter-place-iterator.result.count c.into_iter-place-iterator.result.iter.done c.into_iter-place-iterator.result.iter.rest.now c.args.text.now count rest c.requires)),
       tt,
       parts_read_at c.args.text.now 0 0 [] _ refl (ap (map value_of) (sym c.new-entries.ensures.items)) (parts_none c.args.text.now),
@@ -35,8 +34,7 @@ pub loop-place-preserved-then-not-says : goal.loop-place-preserved-then-not-says
 loop-place-preserved-then-not-says c =
     let this = (goal.at.loop-place-preserved-then-not-says c).In-Some in
     let words : map (λ word. word.now) c.deref.result.now ≡ words_of c.in-Some.line.now = ap (map (λ word. word.now)) c.deref.ensures.value ∙ c.in_ok-words.ensures in
-    let silent : says (words_of c.in-Some.line.now) ≡ false = ap says (sym words) ∙ (sym c.says.ensures ∙ c.if-not-says.true) in
-    (
+    let silent : says (words_of c.in-Some.line.now) ≡ false = ap says (sym words) ∙ (sym c.says.ensures ∙ c.if-not-says.true) in (
       search of_calls,
       tt,
       parts_read_at c.args.text.now (length c.loop-place.yielded + 1) _ _ _ (next this) refl (part_skipped c.args.text.now (length c.loop-place.yielded) _ (part this) c.loop-place.invariant.2 (turn this).0 (turn this).1 silent),
@@ -56,8 +54,7 @@ loop-place-preserved c =
     let words : map (λ word. word.now) c.deref.result.now ≡ words_of c.in-Some.line.now = ap (map (λ word. word.now)) c.deref.ensures.value ∙ c.in_ok-words.ensures in
     let speaks : says (words_of c.in-Some.line.now) ≡ true = ap says (sym words) ∙ (sym c.says.ensures ∙ c.if-not-says.false) in
     let read = line_read_at _ (map value_of (vec_items c.loop-place.entries)) (c.in-Some.place + 1) _ (words_of c.in-Some.line.now) c.in_ok-entry.field-0 (Ok c.in-Ok.entry) (ap (map value_of) c.deref-in-loop-place.ensures.value) (ap (map (λ word. word.now)) c.deref-in-loop-place-2.ensures.value ∙ c.in_ok-words.ensures) c.in-Ok.is c.in_ok-entry.ensures in
-    let pushed : map value_of (vec_items c.loop-place.entries) ++ value_of c.in-Ok.entry ∷ [] ≡ map value_of (vec_items c.push.new.self) = sym (map-append value_of (vec_items c.loop-place.entries) (c.in-Ok.entry ∷ [])) ∙ ap (map value_of) (sym c.in_ok-push-in-Ok.ensures.items) in
-    (
+    let pushed : map value_of (vec_items c.loop-place.entries) ++ value_of c.in-Ok.entry ∷ [] ≡ map value_of (vec_items c.push.new.self) = sym (map-append value_of (vec_items c.loop-place.entries) (c.in-Ok.entry ∷ [])) ∙ ap (map value_of) (sym c.in_ok-push-in-Ok.ensures.items) in (
       search of_calls,
       tt,
       parts_read_at c.args.text.now (length c.loop-place.yielded + 1) _ _ _ (next this) pushed (part_read c.args.text.now (length c.loop-place.yielded) _ (part this) c.in-Ok.entry c.loop-place.invariant.2 (turn this).0 (turn this).1 speaks read),

@@ -1,6 +1,6 @@
 use Rattle.std.proofs.Common.{length, map, vec_items}
-use Rattle.joblist.specs.Entries.{value_of}
 use Rattle.joblist.proofs.LineByLine.{PartsRead}
+use Rattle.joblist.specs.Passes.{value_of}
 use Rattle.joblist.proofs.reading.read_lines.Given as goal
 
 abbrev pub invariant-loop-place : goal.invariant-loop-place
