@@ -1,24 +1,24 @@
 -- The names of an accepted job list.
-use Rattle.std.proofs.Common.{◌≡◌, ℕ, zero, suc, ◌+◌, ◌<◌, ◌≤◌, Bool, true, false, cond, nat_lt, List, [], ◌∷◌, map, length, get_or, take, Some, None, Ok, Err, Option, Result, sym, refl, ap, ◌∙◌, subst, ⊎_elim, arith}
+use Rattle.std.proofs.Common.{◌≡◌, ℕ, suc, ◌<◌, ◌≤◌, Bool, true, false, cond, nat_lt, List, [], ◌∷◌, map, length, get_or, take, Some, None, Ok, Err, Option, Result, sym, refl, ap, ◌∙◌, subst, ⊎_elim, arith}
 use Rattle.std.specs.List.{AllByRecursion}
 use Rattle.std.specs.Str.{bytes_eq}
 use Rattle.std.proofs.lemmas.Bool.{cases_lt, false≢true}
-use Rattle.std.proofs.lemmas.List.{append-nil, get_or-map, get_or-take, length-map, length-take-le}
+use Rattle.std.proofs.lemmas.List.{get_or-map, get_or-take, length-map, length-take-le}
 use Rattle.std.proofs.lemmas.List.Folds.{list_any_at}
 use Rattle.std.proofs.lemmas.Slice.Eq.{bytes_eq-Decides}
-use Rattle.book.specs.Books.{Book, needs_of}
-use Rattle.book.proofs.Keeping.{needs_of_both}
-use Rattle.filing.specs.Books.{needs_by}
+use Rattle.book.specs.Books.{Book}
 use Rattle.joblist.specs.declared.refusal.JobRefusal.{JobRefusal}
 use Rattle.joblist.specs.declared.refusal.JobRefusal.TheVariants.{TooLong}
 use Rattle.joblist.specs.Lines.{Line, lines_of}
 use Rattle.joblist.specs.Entries.{Entry, no_line, no_entry, entry_of}
 use Rattle.joblist.specs.Faults.{number_of}
-use Rattle.joblist.specs.JobLists.{first_below, line_refusal, name_fault, needs_refusal, needs_from, book_of, unless, book_of_entries, book_of_lines, book_of_text}
+use Rattle.joblist.specs.JobLists.{first_below, line_refusal, name_fault, needs_refusal, book_of, unless, book_of_entries, book_of_lines, book_of_text}
 use Rattle.joblist.specs.Names.{name_of, WellNamed}
 use Rattle.joblist.proofs.Firsts.{first_each}
 use Rattle.joblist.proofs.Soundness.{no_fault, line_passed}
-use Rattle.joblist.proofs.NameByName.{needs_of_own, needs_of_other, fault_at, fine, named}
+use Rattle.joblist.proofs.NeedLists.{needs_own}
+use Rattle.joblist.proofs.Numbering.{named, fine}
+use Rattle.joblist.proofs.NameByName.{fault_at}
 
 -- What an accepted text is.
 
@@ -59,21 +59,6 @@ distinct ls u v none first second same = ⊎_elim
     (cases_lt u v)
 
 -- What an entry needs.
-
--- later entries' needs are none of its
-needs_after : (all : List Entry) (u i : ℕ) (es : List Entry) → u < i → needs_of u (needs_from all i es) ≡ []
-needs_after all u i [] before = refl
-needs_after all u i (e ∷ es) before = rw (needs_of_both u (needs_by i (map (number_of all) e.needs)) (needs_from all (suc i) es), needs_of_other u i (map (number_of all) e.needs) (λ is. omega arith)) (needs_after all u (suc i) es (omega arith))
-
--- so they are those of its line
-needs_own : (all : List Entry) (u i k : ℕ) (es : List Entry) → u ≡ i + k → k < length es → needs_of u (needs_from all i es) ≡ map (number_of all) (get_or es k no_entry).needs
-needs_own all u i k [] is inside = absurd (omega arith)
-needs_own all u i zero (e ∷ es) is inside =
-    let ns = map (number_of all) e.needs in
-    let here : i ≡ u = omega arith in
-    let own : needs_of u (needs_by i ns) ≡ ns = subst (λ j. needs_of u (needs_by j ns) ≡ ns) (sym here) (needs_of_own u ns) in
-    needs_of_both u (needs_by i ns) (needs_from all (suc i) es) ∙ (rw (own, needs_after all u (suc i) es (omega arith)) (append-nil ns))
-needs_own all u i (suc k) (e ∷ es) is inside = rw (needs_of_both u (needs_by i (map (number_of all) e.needs)) (needs_from all (suc i) es), needs_of_other u i (map (number_of all) e.needs) (λ same. omega arith)) (needs_own all u (suc i) k es (omega arith) (omega arith))
 
 -- each name has an entry
 known : (es : List Entry) (u k : ℕ) → first_below (length es) (needs_refusal es) ≡ None → u < length es → k < length (get_or es u no_entry).needs → number_of es (get_or (get_or es u no_entry).needs k []) < length es

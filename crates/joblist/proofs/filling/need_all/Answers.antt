@@ -5,7 +5,7 @@ use Rattle.joblist.specs.declared.refusal.JobRefusal.TheVariants.{Faulty}
 use Rattle.joblist.specs.Entries.{Entry, no_entry}
 use Rattle.joblist.specs.Passes.{value_of, NeedsEntered}
 use Rattle.joblist.proofs.Lists.{value_at}
-use Rattle.joblist.proofs.NameByName.{needs_none, needs_entered, needs_refused}
+use Rattle.joblist.proofs.NeedsByEntry.{needs_none, needs_entered, needs_refused}
 use Rattle.joblist.proofs.filling.need_all.Goals as goal
 
 pub loop-number-init : goal.loop-number-init

@@ -1,6 +1,6 @@
 use Rattle.std.proofs.Common.{map}
 use Rattle.book.specs.Values.{open_of}
-use Rattle.joblist.proofs.NameByName.{NeedsSoFar}
+use Rattle.joblist.proofs.NeedsByEntry.{NeedsSoFar}
 use Rattle.joblist.specs.Passes.{value_of}
 use Rattle.joblist.proofs.filling.need_all.Given as goal
 

@@ -1,4 +1,4 @@
-use Rattle.std.proofs.Common.{◌≡◌, ◌==◌, ◌+◌, ◌<◌, true, false, ℕ, List, [], ◌∷◌, ◌++◌, map, length, get_or, vec_items, Ok, Err, inl, of_calls, rules, refl, sym, ap, ◌∙◌, arith}
+use Rattle.std.proofs.Common.{◌≡◌, ◌==◌, ◌+◌, ◌<◌, ℕ, List, [], ◌∷◌, ◌++◌, map, length, get_or, vec_items, Ok, Err, inl, of_calls, rules, refl, sym, ap, ◌∙◌, arith}
 use borrow.Author.Tests.{tests}
 use Rattle.std.proofs.lemmas.Iterator.Consumers.{YieldsList-at, YieldsList-from_enumerate, YieldsList-turn, YieldsList-end}
 use Rattle.std.proofs.lemmas.Iterator.Splits.{YieldsList-from_slice_split}
@@ -7,7 +7,7 @@ use Rattle.joblist.specs.Lines.{words_of, says}
 use Rattle.joblist.proofs.LineByLine.{parts, parts_none, part_skipped, part_read, part_refused, parts_all, line_read_at, parts_read_at, few_left}
 use Rattle.joblist.proofs.reading.read_lines.Goals as goal
 use Rattle.joblist.specs.Passes.{value_of}
-use Rattle.joblist.proofs.reading.read_lines.Goals.{In-Some}
+use Rattle.joblist.proofs.reading.read_lines.Goals.{In-Some, After-says}
 
 -- the part that this turn is about, and where it stands
 abbrev part : In-Some → ℕ × List ℕ
@@ -19,6 +19,10 @@ turn c = YieldsList-turn (YieldsList-at c.into_iter-place-iterator.ensures.into_
 -- it is one more
 next : (c : In-Some) → length c.loop-place.yielded + 1 ≡ length (c.loop-place.yielded ++ (c.in-Some.place, c.in-Some.line) ∷ [])
 next c = sym (length_push c.loop-place.yielded (c.in-Some.place, c.in-Some.line))
+
+-- whether it says something is what the code asks of its words
+speaks : (c : After-says) → says (words_of c.in-Some.line.now) ≡ c.says.result
+speaks c = ap says (sym (ap (map (λ word. word.now)) c.deref.ensures.value ∙ c.in_ok-words.ensures)) ∙ sym c.says.ensures
 
 pub loop-place-init : goal.loop-place-init
 loop-place-init c =
@@ -33,8 +37,7 @@ loop-place-init c =
 pub loop-place-preserved-then-not-says : goal.loop-place-preserved-then-not-says
 loop-place-preserved-then-not-says c =
     let this = (goal.at.loop-place-preserved-then-not-says c).In-Some in
-    let words : map (λ word. word.now) c.deref.result.now ≡ words_of c.in-Some.line.now = ap (map (λ word. word.now)) c.deref.ensures.value ∙ c.in_ok-words.ensures in
-    let silent : says (words_of c.in-Some.line.now) ≡ false = ap says (sym words) ∙ (sym c.says.ensures ∙ c.if-not-says.true) in (
+    let silent = speaks (goal.at.loop-place-preserved-then-not-says c).After-says ∙ c.if-not-says.true in (
       search of_calls,
       tt,
       parts_read_at c.args.text.now (length c.loop-place.yielded + 1) _ _ _ (next this) refl (part_skipped c.args.text.now (length c.loop-place.yielded) _ (part this) c.loop-place.invariant.2 (turn this).0 (turn this).1 silent),
@@ -43,21 +46,19 @@ loop-place-preserved-then-not-says c =
 pub returns-in-Err : goal.returns-in-Err
 returns-in-Err c =
     let this = (goal.at.returns-in-Err c).In-Some in
-    let words : map (λ word. word.now) c.deref.result.now ≡ words_of c.in-Some.line.now = ap (map (λ word. word.now)) c.deref.ensures.value ∙ c.in_ok-words.ensures in
-    let speaks : says (words_of c.in-Some.line.now) ≡ true = ap says (sym words) ∙ (sym c.says.ensures ∙ c.if-not-says.false) in
+    let told = speaks (goal.at.returns-in-Err c).After-says ∙ c.if-not-says.false in
     let read = line_read_at _ (map value_of (vec_items c.loop-place.entries)) (c.in-Some.place + 1) _ (words_of c.in-Some.line.now) c.in_ok-entry.field-0 (Err c.in-Err.fault) (ap (map value_of) c.deref-in-loop-place.ensures.value) (ap (map (λ word. word.now)) c.deref-in-loop-place-2.ensures.value ∙ c.in_ok-words.ensures) c.in-Err.is c.in_ok-entry.ensures in
-    part_refused c.args.text.now (length c.loop-place.yielded) _ (part this) c.in-Err.fault c.loop-place.invariant.2 (turn this).0 (turn this).1 speaks read
+    part_refused c.args.text.now (length c.loop-place.yielded) _ (part this) c.in-Err.fault c.loop-place.invariant.2 (turn this).0 (turn this).1 told read
 
 pub loop-place-preserved : goal.loop-place-preserved
 loop-place-preserved c =
     let this = (goal.at.loop-place-preserved c).In-Some in
-    let words : map (λ word. word.now) c.deref.result.now ≡ words_of c.in-Some.line.now = ap (map (λ word. word.now)) c.deref.ensures.value ∙ c.in_ok-words.ensures in
-    let speaks : says (words_of c.in-Some.line.now) ≡ true = ap says (sym words) ∙ (sym c.says.ensures ∙ c.if-not-says.false) in
+    let told = speaks (goal.at.loop-place-preserved c).After-says ∙ c.if-not-says.false in
     let read = line_read_at _ (map value_of (vec_items c.loop-place.entries)) (c.in-Some.place + 1) _ (words_of c.in-Some.line.now) c.in_ok-entry.field-0 (Ok c.in-Ok.entry) (ap (map value_of) c.deref-in-loop-place.ensures.value) (ap (map (λ word. word.now)) c.deref-in-loop-place-2.ensures.value ∙ c.in_ok-words.ensures) c.in-Ok.is c.in_ok-entry.ensures in
     let pushed : map value_of (vec_items c.loop-place.entries) ++ value_of c.in-Ok.entry ∷ [] ≡ map value_of (vec_items c.push.new.self) = sym (map-append value_of (vec_items c.loop-place.entries) (c.in-Ok.entry ∷ [])) ∙ ap (map value_of) (sym c.in_ok-push-in-Ok.ensures.items) in (
       search of_calls,
       tt,
-      parts_read_at c.args.text.now (length c.loop-place.yielded + 1) _ _ _ (next this) pushed (part_read c.args.text.now (length c.loop-place.yielded) _ (part this) c.in-Ok.entry c.loop-place.invariant.2 (turn this).0 (turn this).1 speaks read),
+      parts_read_at c.args.text.now (length c.loop-place.yielded + 1) _ _ _ (next this) pushed (part_read c.args.text.now (length c.loop-place.yielded) _ (part this) c.in-Ok.entry c.loop-place.invariant.2 (turn this).0 (turn this).1 told read),
     )
 
 pub returns : goal.returns
