@@ -4,15 +4,12 @@ use Rattle.std.specs.Result.{is_ok}
 use Rattle.std.proofs.lemmas.Bool.Decides.{nat_tests}
 use Rattle.std.proofs.lemmas.List.{length-map, length-take-le, map-append, take_more}
 use Rattle.book.specs.declared.refusal.EnterRefusal.{EnterRefusal}
-use Rattle.book.specs.Books.{Amounts, Book, empty}
+use Rattle.book.specs.Books.{Amounts, Book}
 use Rattle.book.specs.Calls.{Open, unused, enter_refused, Entered}
 use Rattle.filing.specs.Passes.{Filled}
-use Rattle.filing.proofs.Filling.{filled_none, filled_entry}
+use Rattle.filing.proofs.Filling.{filled_entry}
 use Rattle.joblist.specs.Entries.{Entry, no_entry}
 use Rattle.joblist.specs.Passes.{Sound, with_entries}
-
-pub entered_none : (s : Open) → s.book ≡ empty → Filled (with_entries []) s s
-entered_none s new = subst (λ b. Filled b s s) new (filled_none s)
 
 -- no question refuses entry number u
 passes : (es : List Entry) (u : ℕ) (s t : Open) → Sound es → 36864 ≤ length s.table.now → Filled (with_entries (take u es)) s t → u < length es → enter_refused t (get_or es u no_entry).amounts.earning (get_or es u no_entry).amounts.cost ≡ None

@@ -37,7 +37,7 @@ names_none es u s = record {
   filled = subst (λ ns. Filled (record { entries = s.book.entries; needs = ns }) s s) (sym (append-nil s.book.needs)) (filled_none s);
 }
 
--- no question refuses it
+-- what no question of a book refuses is not refused
 no_refusal : (u w : ℕ) (already : List ℕ) (entries spare : ℕ) → Needs u w already entries spare → need_refusal u w already entries spare ≡ None
 no_refusal u w already entries spare n = let fresh = n.fresh in grind (arith, nat_tests, n.there, n.needed_there, n.others, n.few, n.room)
 

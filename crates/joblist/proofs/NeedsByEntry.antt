@@ -1,6 +1,6 @@
 -- The third pass for all entries: what they need, entry by entry.
-use Rattle.std.proofs.Common.{◌≡◌, ℕ, suc, ◌+◌, ◌<◌, ◌≤◌, List, ◌++◌, map, length, get_or, take, Some, None, Ok, Err, sym, ap, ◌∙◌, subst, arith}
-use Rattle.std.proofs.lemmas.List.{length-append, take_all}
+use Rattle.std.proofs.Common.{◌≡◌, ℕ, suc, ◌+◌, ◌<◌, List, ◌++◌, map, length, get_or, take, Some, None, Ok, Err, sym, ap, ◌∙◌, subst, arith}
+use Rattle.std.proofs.lemmas.List.{length-append}
 use Rattle.book.specs.Books.{Need, Book}
 use Rattle.book.specs.Calls.{Open}
 use Rattle.filing.specs.Books.{needs_by}
@@ -10,7 +10,7 @@ use Rattle.joblist.specs.declared.refusal.Fault.{Fault}
 use Rattle.joblist.specs.declared.refusal.JobRefusal.TheVariants.{Faulty}
 use Rattle.joblist.specs.Entries.{Entry, no_entry}
 use Rattle.joblist.specs.JobLists.{first_below, at_line, needs_refusal, needs_from}
-use Rattle.joblist.specs.Passes.{Sound, NeedsFit, NeedsEntered, AllNeedsEntered, numbers_of, with_entries, with_needs_of}
+use Rattle.joblist.specs.Passes.{NeedsEntered, numbers_of, with_entries, with_needs_of}
 use Rattle.joblist.proofs.Firsts.{first_none, first_next, first_stays}
 use Rattle.joblist.proofs.NeedLists.{needs_next}
 
@@ -22,11 +22,7 @@ pub record NeedsSoFar (es : List Entry) (n : ℕ) (s t : Open) : Type 0 where
 pub needs_none : (es : List Entry) (s : Open) → s.book ≡ with_entries es → NeedsSoFar es 0 s s
 needs_none es s new = record { passed = first_none (needs_refusal es); filled = subst (λ b. Filled b s s) new (filled_none s) }
 
--- the next entry may have its needs
-pub needs_fit : (es : List Entry) (n : ℕ) (s t : Open) → Sound es → 36864 ≤ length s.table.now → NeedsSoFar es n s t → n < length es → NeedsFit es n t
-needs_fit es n s t sound room so_far inside = record { sound = sound; there = inside; book = so_far.filled.book; room = omega (arith, so_far.filled.spared.untouched.0) }
-
--- and then they are entered
+-- those of the next entry are entered
 pub needs_entered : (es : List Entry) (n : ℕ) (s t v : Open) → NeedsSoFar es n s t → n < length es → NeedsEntered es n t (Ok tt) v → NeedsSoFar es (n + 1) s v
 needs_entered es n s t v so_far inside (none, filled) =
     let more : suc n ≡ n + 1 = omega arith in
@@ -48,13 +44,3 @@ needs_entered es n s t v so_far inside (none, filled) =
 -- or the first fault is told
 pub needs_refused : (es : List Entry) (n : ℕ) (s t v : Open) (f : Fault) → NeedsSoFar es n s t → n < length es → NeedsEntered es n t (Err f) v → first_below (length es) (needs_refusal es) ≡ Some (Faulty f (get_or es n no_entry).line)
 needs_refused es n s t v f so_far inside is = first_stays (needs_refusal es) (suc n) (length es) _ inside (first_next (needs_refusal es) n so_far.passed ∙ ap (at_line (get_or es n no_entry).line) is)
-
--- in the end all are entered
-pub needs_all : (es : List Entry) (n : ℕ) (s t : Open) → NeedsSoFar es n s t → n ≡ length es → AllNeedsEntered es s (Ok tt) t
-needs_all es n s t so_far is = (
-  subst (λ k. first_below k (needs_refusal es) ≡ None) is so_far.passed,
-  subst (λ xs. Filled (of_list xs) s t) (take_all n es (omega arith)) so_far.filled,
-)
-  where
-    of_list : List Entry → Book
-    of_list xs = record { entries = map (λ e. e.amounts) es; needs = needs_from es 0 xs }
