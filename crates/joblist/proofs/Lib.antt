@@ -14,4 +14,5 @@ pub mod NameByName
 pub mod NeedsByEntry
 -- What an accepted text is, and its sheet.
 pub mod Naming
+pub mod Telling
 pub mod Writing

@@ -4,13 +4,15 @@ use Rattle.std.specs.declared.alloc.Global.{Global}
 use Rattle.book.specs.Books.{Book}
 use Rattle.book.specs.Calls.{Open}
 use Rattle.filing.specs.Passes.{Filled, with_needs}
+use Rattle.filing.specs.Sheets.{sheet_of}
+use Rattle.filing.specs.Writes.{LoadsBack}
 use Rattle.joblist.specs.declared.entry.Entry.{Entry as TheEntry}
 use Rattle.joblist.specs.declared.refusal.Fault.{Fault}
 use Rattle.joblist.specs.declared.refusal.JobRefusal.{JobRefusal}
 use Rattle.joblist.specs.Lines.{Line}
 use Rattle.joblist.specs.Entries.{Entry, no_entry, entry_of}
 use Rattle.joblist.specs.Faults.{line_fault, number_of}
-use Rattle.joblist.specs.JobLists.{first_below, line_refusal, name_fault, needs_refusal, needs_from, book_of, book_of_text}
+use Rattle.joblist.specs.JobLists.{first_below, line_refusal, name_fault, needs_refusal, needs_from, book_of, book_of_entries}
 
 -- the entry that the code holds
 abbrev pub value_of : TheEntry → Entry
@@ -80,7 +82,7 @@ abbrev pub AllNeedsEntered : List Entry → Open → Result (Unit {0}) JobRefusa
 AllNeedsEntered es s (Ok _) t = (first_below (length es) (needs_refusal es) ≡ None) × Filled (book_of es) s t
 AllNeedsEntered es s (Err x) t = first_below (length es) (needs_refusal es) ≡ Some x
 
--- the book t is that of a text, or the text's refusal is told
-abbrev pub BookFilled : List ℕ → Result (Unit {0}) JobRefusal → Open → Type 0
-BookFilled text (Ok _) t = book_of_text text ≡ Ok t.book
-BookFilled text (Err x) t = book_of_text text ≡ Err x
+-- the answer to entries: the sheet of their book, which loads back, or the refusal of a name
+abbrev pub EntriesDrafted : List Entry → Result (List ℕ) JobRefusal → Type 0
+EntriesDrafted es (Ok bs) = (b : Book) × (book_of_entries es ≡ Ok b) × (bs ≡ sheet_of b) × LoadsBack b bs
+EntriesDrafted es (Err x) = book_of_entries es ≡ Err x

@@ -1,12 +1,12 @@
 // The order sheet of a job list.
-ghost use Rattle.std.specs.Prelude.{◌≡◌, ◌≤◌, length, IfOk, vec_items};
-ghost use Rattle.book.specs.Books.{empty};
+ghost use Rattle.std.specs.Prelude.{◌≡◌, map, IfOk, vec_items};
 ghost use Rattle.book.specs.Values.{open_of};
 ghost use Rattle.filing.specs.Sheets.{sheet_of};
 ghost use Rattle.filing.specs.Writes.{LoadsBack};
 ghost use Rattle.joblist.specs.Drafts.{bytes_of, Drafted};
-ghost use Rattle.joblist.specs.Passes.{BookFilled};
+ghost use Rattle.joblist.specs.Passes.{value_of, Sound, EntriesDrafted};
 
+use super::entry::Entry;
 use super::filling::{enter_all, need_all};
 use super::reading::read_lines;
 use super::refusal::JobRefusal;
@@ -22,38 +22,32 @@ const RECORDS: usize = 36_864;
 // The most bytes of a sheet: 17 for each of 4,096 entries.
 const SHEET_BYTES: usize = 69_632;
 
-// The order sheet of the book that a job list tells.
+// The order sheet of the book that a job list tells. A text that is longer than a job list may be is refused unread.
 pub fn to_sheet(heap: Global, text: &[u8]) -> Result<Result<Vec<u8>, JobRefusal>, AllocError>
     ensures { IfOk result (λ answer. Drafted text.now (bytes_of answer)) }
-{
-    let mut table = vec![in heap; Record::default(); RECORDS]?;
-    let mut book = OpenBook::new(&mut table);
-    if let Err(refusal) = fill(heap, text, &mut book)? {
-        return Ok(Err(refusal));
-    }
-    let sheet = write_sheet(heap, &book)?;
-    Ok(Ok(sheet))
-}
-
-// Fills a new book with what a text tells, or tells why it is refused.
-fn fill(
-    heap: Global,
-    text: &[u8],
-    book: &mut OpenBook,
-) -> Result<Result<(), JobRefusal>, AllocError>
-    requires new { (open_of book.old).book ≡ empty }
-    requires room { 36864 ≤ length (open_of book.old).table.now }
-    ensures { IfOk result (λ filled. BookFilled text.now filled (open_of book.new)) }
 {
     if text.len() > MOST_BYTES {
         return Ok(Err(JobRefusal::TooLong));
     }
-    let entries = match read_lines(heap, text)? {
-        Ok(entries) => entries,
-        Err(refusal) => return Ok(Err(refusal)),
-    };
-    enter_all(book, &entries);
-    Ok(need_all(book, &entries))
+    match read_lines(heap, text)? {
+        Ok(entries) => draft(heap, &entries),
+        Err(refusal) => Ok(Err(refusal)),
+    }
+}
+
+// The order sheet of the book of some entries, or the first fault of a name that one needs.
+fn draft(heap: Global, entries: &[Entry]) -> Result<Result<Vec<u8>, JobRefusal>, AllocError>
+    requires { Sound (map value_of entries.now) }
+    ensures { IfOk result (λ answer. EntriesDrafted (map value_of entries.now) (bytes_of answer)) }
+{
+    let mut table = vec![in heap; Record::default(); RECORDS]?;
+    let mut book = OpenBook::new(&mut table);
+    enter_all(&mut book, entries);
+    if let Err(refusal) = need_all(&mut book, entries) {
+        return Ok(Err(refusal));
+    }
+    let sheet = write_sheet(heap, &book)?;
+    Ok(Ok(sheet))
 }
 
 // The sheet of a book.

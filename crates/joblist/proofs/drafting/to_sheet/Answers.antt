@@ -1,23 +1,18 @@
-use Rattle.std.proofs.Common.{length, ap, subst, arith}
-use Rattle.book.specs.Calls.{Open}
-use Rattle.book.specs.Values.{open_of}
-use Rattle.joblist.specs.Passes.{BookFilled}
-use Rattle.joblist.proofs.Naming.{well_named}
+use Rattle.std.proofs.Common.{map, Ok, sym, subst, arith}
+use Rattle.std.proofs.lemmas.Result.{IfOk-weaker}
+use Rattle.joblist.specs.Drafts.{bytes_of, Drafted}
+use Rattle.joblist.specs.Lines.{lines_of}
+use Rattle.joblist.specs.Passes.{value_of, LinesRead, entries_of, EntriesDrafted}
+use Rattle.joblist.proofs.Soundness.{sound_read}
+use Rattle.joblist.proofs.Telling.{drafted}
 use Rattle.joblist.proofs.drafting.to_sheet.Goals as goal
 
-pub fill-requires-clause-new : goal.fill-requires-clause-new
-fill-requires-clause-new c = ap (λ (o : Open). o.book) c.new-book.ensures
+pub draft-requires : goal.draft-requires
+draft-requires c = sound_read (lines_of c.args.text.now) c.in_ok-entries.field-0 c.in-Ok.entries c.deref.result.now c.in_ok-entries.ensures c.in-Ok.is c.deref.ensures.value
 
-pub fill-requires-clause-room : goal.fill-requires-clause-room
-fill-requires-clause-room c = omega (arith, ap (λ (o : Open). length o.table.now) c.new-book.ensures, c.deref_mut.ensures.len, c.in_ok-table.ensures.len)
-
-pub returns : goal.returns
-returns c =
-    let filled = subst (λ answer. BookFilled c.args.text.now answer (open_of c.fill.new.book)) c.in_default.is c.in_ok-refusal.ensures in
-    record {
-      book = (open_of c.fill.new.book).book;
-      told = filled;
-      sheet = c.in_ok-sheet.ensures.whole;
-      back = c.in_ok-sheet.ensures.back;
-      names = well_named c.args.text.now (open_of c.fill.new.book).book filled;
-    }
+pub returns-in-Ok : goal.returns-in-Ok
+returns-in-Ok c =
+    let es = map value_of c.deref.result.now in
+    let read = subst (λ answer. LinesRead (lines_of c.args.text.now) (entries_of answer)) c.in-Ok.is c.in_ok-entries.ensures in
+    let held = subst (λ xs. LinesRead (lines_of c.args.text.now) (Ok (map value_of xs))) (sym c.deref.ensures.value) read in
+    IfOk-weaker c.draft.result (λ answer. EntriesDrafted es (bytes_of answer)) (λ answer. Drafted c.args.text.now (bytes_of answer)) (λ answer. drafted c.args.text.now es (bytes_of answer) (omega arith) held) c.draft.ensures
