@@ -1,5 +1,5 @@
 -- The entries that the lines of a job list tell.
-use Rattle.std.specs.Prelude.{ℕ, Bool, cond, List, [], drop, codes, slice_index_or}
+use Rattle.std.specs.Prelude.{ℕ, ◌-◌, Bool, cond, List, [], drop, codes, slice_index_or}
 use Rattle.std.specs.Str.{bytes_eq}
 use Rattle.std.specs.Str.Parse.{digits_value}
 use Rattle.book.specs.Books.{Amounts, no_amounts}
@@ -29,10 +29,27 @@ is_job words = bytes_eq (word words 0) (codes "job")
 abbrev pub is_set_up : List (List ℕ) → Bool
 is_set_up words = bytes_eq (word words 0) (codes "set-up")
 
--- a job earns so much and costs nothing, a set-up costs so much and earns nothing
-abbrev pub amounts : Bool → ℕ → Amounts
-amounts job x = record { earning = cond job x 0; cost = cond job 0 x }
+abbrev pub is_both : List (List ℕ) → Bool
+is_both words = bytes_eq (word words 0) (codes "both")
 
--- the entry that a line tells: `job` or `set-up`, the name, the amount, and the names of what it needs
+-- how many words stand before the names of what an entry needs: the first, its name, and its one amount or both
+abbrev pub first_need : List (List ℕ) → ℕ
+first_need words = cond (is_both words) 4 3
+
+-- the first amount and the last, which are one where there is one
+abbrev pub first_amount : List (List ℕ) → List ℕ
+first_amount words = word words 2
+
+abbrev pub last_amount : List (List ℕ) → List ℕ
+last_amount words = word words (first_need words - 1)
+
+-- a job earns its amount, a set-up costs it, and what has both earns the first and costs the last
+abbrev pub amounts : List (List ℕ) → Amounts
+amounts words = record {
+  earning = cond (is_set_up words) 0 (digits_value 10 (first_amount words));
+  cost = cond (is_job words) 0 (digits_value 10 (last_amount words));
+}
+
+-- the entry that a line tells
 abbrev pub entry_of : Line → Entry
-entry_of l = record { line = l.number; name = word l.words 1; amounts = amounts (is_job l.words) (digits_value 10 (word l.words 2)); needs = drop 3 l.words }
+entry_of l = record { line = l.number; name = word l.words 1; amounts = amounts l.words; needs = drop (first_need l.words) l.words }

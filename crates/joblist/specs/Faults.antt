@@ -5,16 +5,16 @@ use Rattle.std.specs.Str.{bytes_eq}
 use Rattle.joblist.specs.declared.refusal.Fault.{Fault}
 use Rattle.joblist.specs.declared.refusal.Fault.TheVariants.{NoEntry, AmountRange, NameTaken, TooMany, ManyNeeds, Unknown, Itself, Repeated}
 use Rattle.joblist.specs.Amounts.{is_amount}
-use Rattle.joblist.specs.Entries.{Entry, word, is_job, is_set_up}
+use Rattle.joblist.specs.Entries.{Entry, word, is_job, is_set_up, is_both, first_need, first_amount, last_amount}
 
 -- of some questions, each with its answer and the fault that it finds where that is no: the first fault
 abbrev pub first_no : List (Bool × Fault) → Option Fault
 first_no [] = None
 first_no ((answer, f) ∷ more) = cond answer (first_no more) (Some f)
 
--- whether words are those of an entry: `job` or `set-up`, then a name and an amount
+-- whether words are those of an entry: `job` or `set-up`, a name and an amount, or `both`, a name and two amounts
 abbrev pub tells_entry : List (List ℕ) → Bool
-tells_entry words = nat_le 3 (length words) && (is_job words || is_set_up words)
+tells_entry words = nat_le (first_need words) (length words) && (is_job words || is_set_up words || is_both words)
 
 -- whether one of the entries has this name
 abbrev pub is_taken : List Entry → List ℕ → Bool
@@ -24,10 +24,10 @@ is_taken es name = list_any (λ e. bytes_eq e.name name) es
 abbrev pub line_fault : List Entry → List (List ℕ) → Option Fault
 line_fault before words = first_no (
     (tells_entry words, NoEntry)
-    ∷ (is_amount (word words 2), AmountRange)
+    ∷ (is_amount (first_amount words) && is_amount (last_amount words), AmountRange)
     ∷ (not (is_taken before (word words 1)), NameTaken)
     ∷ (nat_lt (length before) 4096, TooMany)
-    ∷ (nat_le (length (drop 3 words)) 4, ManyNeeds)
+    ∷ (nat_le (length (drop (first_need words) words)) 4, ManyNeeds)
     ∷ []
     )
 

@@ -7,8 +7,8 @@ use Rattle.joblist.specs.declared.refusal.JobRefusal.TheVariants.{TooLong, Fault
 use Rattle.joblist.specs.Refusals.{question}
 
 abbrev pub fault_text : Fault → List ℕ
-fault_text NoEntry = codes "it is not job or set-up, then a name and an amount"
-fault_text AmountRange = codes "its amount is not a number from 0 to 1000000"
+fault_text NoEntry = codes "it is not job, set-up or both, then a name and what it earns or costs"
+fault_text AmountRange = codes "an amount is not a number from 0 to 1000000"
 fault_text NameTaken = codes "an earlier line has this name"
 fault_text TooMany = codes "there are 4096 entries before it"
 fault_text ManyNeeds = codes "it needs more than four"

@@ -10,9 +10,9 @@ use std::fmt;
 // passed those, the others to each name that it needs.
 #[derive(Clone, Copy, PartialEq, Eq, Debug)]
 pub enum Fault {
-    // it is not `job` or `set-up` with a name and an amount
+    // it is not `job` or `set-up` with a name and an amount, nor `both` with a name and two
     NoEntry,
-    // its amount is not a number from 0 to 1,000,000
+    // an amount is not a number from 0 to 1,000,000
     AmountRange,
     // an earlier line has its name
     NameTaken,
@@ -52,8 +52,11 @@ impl fmt::Display for Fault {
 
     fn fmt<W: fmt::Write>(&self, f: &mut fmt::Formatter<W>) -> fmt::Result {
         match self {
-            Fault::NoEntry => write!(f, "it is not job or set-up, then a name and an amount"),
-            Fault::AmountRange => write!(f, "its amount is not a number from 0 to 1000000"),
+            Fault::NoEntry => write!(
+                f,
+                "it is not job, set-up or both, then a name and what it earns or costs"
+            ),
+            Fault::AmountRange => write!(f, "an amount is not a number from 0 to 1000000"),
             Fault::NameTaken => write!(f, "an earlier line has this name"),
             Fault::TooMany => write!(f, "there are 4096 entries before it"),
             Fault::ManyNeeds => write!(f, "it needs more than four"),
