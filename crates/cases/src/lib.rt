@@ -1,4 +1,4 @@
-// Examples that are run: sheets with their answers, listings with their text, rows as networks, order books, loads, and runs.
+// Examples that are run: sheets with their answers, listings with their text, rows as networks, order books, loads, writes, and runs.
 #![tactic(auto)]
 
 #[cfg(test)]

@@ -17,6 +17,10 @@ abbrev pub Written : Book → List ℕ → Result ℕ WriteRefusal → List ℕ 
 Written b before (Err ShortBuffer) after = (length before < length (sheet_of b)) × (after ≡ before)
 Written b before (Ok n) after = (n ≡ length (sheet_of b)) × (n ≤ length before) × (after ≡ sheet_of b ++ drop n before)
 
+-- a book that is the same as b has the same sheet
+abbrev pub OneSheet : Book → Type 0
+OneSheet b = (c : Book) → SameBook c b → sheet_of c ≡ sheet_of b
+
 -- where b has entries, a load of the sheet bs into a new book, over any table that is long enough, is accepted and gives the same book
 abbrev pub LoadsBack : Book → List ℕ → Type 0
 LoadsBack b bs = (table : MutBor (List Record)) (r : Result Counts LoadRefusal) (t : Open) → 0 < length b.entries → used b ≤ length table.now → Loaded (new_book table) bs r t → (r ≡ Ok (record { entries = length b.entries; needs = length b.needs })) × SameBook t.book b
