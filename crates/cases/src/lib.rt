@@ -1,8 +1,10 @@
-// Examples that are run: sheets with their answers, listings with their text, rows as networks, order books, loads, writes, and runs.
+// Examples that are run: sheets with their answers, listings with their text, rows as networks, order books, loads, writes, job lists, and runs.
 #![tactic(auto)]
 
 #[cfg(test)]
 mod books;
+#[cfg(test)]
+mod jobs;
 #[cfg(test)]
 mod lent;
 #[cfg(test)]
