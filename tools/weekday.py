@@ -1,9 +1,10 @@
 #!/usr/bin/env python3
-"""Writes the order sheet of a weekday in a print shop: the set-ups that jobs share, and the jobs.
+"""Writes a weekday in a print shop, the set-ups that jobs share and then the jobs, as a job list or as its order sheet.
 
-usage: python3 tools/weekday.py >examples/weekday.sheet     at the top
+usage: python3 tools/weekday.py jobs >examples/weekday.jobs       at the top
+       python3 tools/weekday.py sheet >examples/weekday.sheet
 
-Set-ups have names here, by which jobs choose them. In the sheet they go by their numbers: set-ups first, as they stand here, then jobs.
+Entries have names here, which a job list tells. In the sheet they go by their numbers. `draft` makes that sheet of the job list too.
 """
 
 import itertools
@@ -68,20 +69,20 @@ SETUPS = (
     | PLATES | DIES | LABEL_DIES | FOILS | FILMS | BINDINGS | MARKINGS | FOLDS | CLUBS
 )
 
-# The kinds of jobs: what one earns at least and at most, and the set-ups of which it needs one each, the usual ones in front.
+# The kinds of jobs: a name, what one earns at least and at most, and the set-ups of which it needs one each, the usual ones in front.
 KINDS = [
-    (15, 150, [PAPERS, INKS]),  # a letterhead
-    (40, 360, [SHEETS, PROCESS, FOLDS]),  # a leaflet
-    (20, 160, [BOARDS, PROCESS, FILMS]),  # business cards
-    (40, 380, [ROLLS, LABEL_DIES]),  # labels
-    (70, 580, [SHEETS, PROCESS, BINDINGS]),  # a booklet
-    (15, 130, [PAPERS, INKS, MARKINGS]),  # forms
-    (50, 360, [CARDS, TYPES, FOILS]),  # invitations
-    (60, 480, [SHEETS, PLATES, FOLDS]),  # a customer's leaflet
-    (30, 200, [CLOTHS]),  # a banner
-    (90, 700, [BOARDS, DIES, PROCESS, FILMS]),  # cartons and folders
-    (20, 120, [CARDS, TYPES]),  # visiting cards
-    (150, 1900, [SHEETS, PLATES, BINDINGS, FILMS]),  # a customer's catalogue
+    ("letterhead", 15, 150, [PAPERS, INKS]),
+    ("leaflet", 40, 360, [SHEETS, PROCESS, FOLDS]),
+    ("business cards", 20, 160, [BOARDS, PROCESS, FILMS]),
+    ("labels", 40, 380, [ROLLS, LABEL_DIES]),
+    ("booklet", 70, 580, [SHEETS, PROCESS, BINDINGS]),
+    ("forms", 15, 130, [PAPERS, INKS, MARKINGS]),
+    ("invitations", 50, 360, [CARDS, TYPES, FOILS]),
+    ("customer's leaflet", 60, 480, [SHEETS, PLATES, FOLDS]),
+    ("banner", 30, 200, [CLOTHS]),
+    ("cartons", 90, 700, [BOARDS, DIES, PROCESS, FILMS]),
+    ("visiting cards", 20, 120, [CARDS, TYPES]),
+    ("customer's catalogue", 150, 1900, [SHEETS, PLATES, BINDINGS, FILMS]),
 ]
 
 
@@ -97,25 +98,25 @@ def chosen(chance, names):
     return names[min(next(chance) % len(names), next(chance) % len(names))]
 
 
-def job(chance, least, most, choices):
-    """What a job earns and costs, and the names of the set-ups that it needs."""
+def job(chance, kind, least, most, choices):
+    """A job's kind, what it earns and costs, and the names of the set-ups that it needs."""
     # of two draws the smaller, since most jobs are small
     steps = (most - least) // 5 + 1
     earning = least + 5 * min(next(chance) % steps, next(chance) % steps)
     # a third of the jobs are delivered, for a tenth of the earning
     cost = earning // 50 * 5 if next(chance) % 3 == 0 else 0
-    return earning, cost, [chosen(chance, list(setups)) for setups in choices]
+    return kind, earning, cost, [chosen(chance, list(setups)) for setups in choices]
 
 
 def entries():
-    """The entries of the day, each as its earning, its cost and the numbers of the entries that it needs."""
+    """The entries of the day, each as its name, its earning, its cost and the names of the entries that it needs."""
     chance = numbers(SEED)
-    setups = [(0, cost, needs) for cost, needs in SETUPS.values()]
+    setups = [(name, 0, cost, needs) for name, (cost, needs) in SETUPS.items()]
     jobs = [job(chance, *kind) for kind in itertools.islice(itertools.cycle(KINDS), JOBS)]
     # a club has two jobs, which together pay just what its plates cost
-    at_cost = [(cost // 2, 0, ["sheets matt 115 g", plates]) for plates, (cost, _) in CLUBS.items() for _ in range(2)]
-    number = {name: at for at, name in enumerate(SETUPS)}
-    return [(earning, cost, sorted(number[name] for name in needs)) for earning, cost, needs in setups + jobs + at_cost]
+    at_cost = [("club", cost // 2, 0, ["sheets matt 115 g", plates]) for plates, (cost, _) in CLUBS.items() for _ in range(2)]
+    named = [(f"{kind} {at}", *rest) for at, (kind, *rest) in enumerate(jobs + at_cost, 1)]
+    return setups + named
 
 
 def record(earning, cost, needs):
@@ -125,9 +126,29 @@ def record(earning, cost, needs):
     return bytes([bits]) + b"".join(amounts + [needed.to_bytes(2, "big") for needed in needs])
 
 
+def sheet(day):
+    """The order sheet of the entries."""
+    number = {name: at for at, (name, *_) in enumerate(day)}
+    return b"".join(record(earning, cost, sorted(number[needed] for needed in needs)) for _, earning, cost, needs in day)
+
+
+def line(name, earning, cost, needs):
+    """The line of a job list that tells an entry."""
+    if earning and cost:
+        told = ["both", name, str(earning), str(cost)]
+    else:
+        told = ["job", name, str(earning)] if earning else ["set-up", name, str(cost)]
+    return " ".join(word.replace(" ", "-") for word in told + needs) + "\n"
+
+
+def job_list(day):
+    """The job list of the entries, in which names have no blanks."""
+    return "".join(["# A weekday in a print shop: the set-ups, then the jobs.\n"] + [line(*entry) for entry in day]).encode()
+
+
 def main():
-    for entry in entries():
-        sys.stdout.buffer.write(record(*entry))
+    made = {"jobs": job_list, "sheet": sheet}
+    sys.stdout.buffer.write(made[sys.argv[1]](entries()))
 
 
 if __name__ == "__main__":
