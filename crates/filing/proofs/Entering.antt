@@ -43,7 +43,7 @@ passes bs es from to s t r x room e h =
     let left : 0 < unused t = omega arith in
     grind (arith, nat_tests)
 
-entered_ok : (t u : Open) (x y : ℕ) (r : Result ℕ EnterRefusal) → enter_refused t x y ≡ None → Entered t x y r u → is_ok r ≡ true
+pub entered_ok : (t u : Open) (x y : ℕ) (r : Result ℕ EnterRefusal) → enter_refused t x y ≡ None → Entered t x y r u → is_ok r ≡ true
 entered_ok t u x y (Ok i) none h = refl
 entered_ok t u x y (Err e) none h = let never : ◌≡◌ {A = ℕ} 0 1 = cc in absurd (omega arith)
 

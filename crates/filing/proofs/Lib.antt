@@ -2,6 +2,7 @@
 pub mod Standing
 pub mod Filling
 pub mod Entering
+pub mod NeedLists
 pub mod Needing
 pub mod Ones
 pub mod Wholes

@@ -1,12 +1,12 @@
 -- The second pass of loading: the needs.
-use Rattle.std.proofs.Common.{◌≡◌, ℕ, zero, suc, ◌+◌, ◌-◌, ◌<◌, ◌≤◌, true, false, ◌≢◌, ◌==◌, List, [], ◌∷◌, ◌++◌, map, length, get_or, take, Some, None, Ok, Err, Option, Result, sym, refl, ap, ◌∙◌, subst, add-zero, arith}
+use Rattle.std.proofs.Common.{◌≡◌, ℕ, zero, suc, ◌+◌, ◌-◌, ◌<◌, ◌≤◌, true, false, ◌≢◌, ◌==◌, List, [], ◌∷◌, ◌++◌, map, length, get_or, take, Some, None, Ok, Err, Option, Result, sym, refl, ap, ◌∙◌, subst, arith}
 use Rattle.std.specs.List.{slice_get}
 use Rattle.std.specs.Option.{is_some}
 use Rattle.std.specs.Result.{is_ok}
 use Rattle.std.proofs.ByRecursion.{All-get_or}
-use Rattle.std.proofs.lemmas.Bool.{eq-eqb, ne_eqb}
+use Rattle.std.proofs.lemmas.Bool.{ne_eqb}
 use Rattle.std.proofs.lemmas.Bool.Decides.{nat_tests}
-use Rattle.std.proofs.lemmas.List.{append_assoc, append-nil, get_or-take, length-append, length-map, length-take-le, map-append, take_all, take_more}
+use Rattle.std.proofs.lemmas.List.{append_assoc, get_or-take, length-append, length-map, length-take-le, map-append, take_all, take_more}
 use Rattle.std.proofs.lemmas.List.Elements.{All-from_get_or}
 use Rattle.std.proofs.lemmas.List.Folds.{list_any_none}
 use Rattle.std.proofs.lemmas.Option.{slice_get-get_or}
@@ -21,46 +21,15 @@ use Rattle.book.specs.Calls.{Open, used, unused, need_refused, Needed}
 use Rattle.book.specs.Refusals.{among, need_refusal}
 use Rattle.book.specs.Accepted.{Needs}
 use Rattle.book.proofs.Keeping.{needs_of_both}
-use Rattle.filing.specs.Books.{amounts_of, needs_by, needs_from, book_of}
+use Rattle.filing.specs.Books.{amounts_of, needs_by, needs_from, all_needs, book_of}
 use Rattle.filing.specs.Passes.{entries_alone, Filled, NeedsFit, with_needs}
 use Rattle.filing.proofs.Standing.{no_entry, sound_at, Standing, standing_start, turn, at_end}
+use Rattle.filing.proofs.NeedLists.{needs_of_own, length_by, needs_of_before, needs_from_next, needs_from_few, all_needs_length, all_needs_at}
 use Rattle.filing.proofs.Filling.{filled_none, filled_on, filled_need}
 
--- Lists of needs.
-
-pub needs_of_own : (u : ℕ) (ns : List ℕ) → needs_of u (needs_by u ns) ≡ ns
-needs_of_own u [] = refl
-needs_of_own u (w ∷ ns) = rw (eq-eqb u u refl) (ap (λ xs. w ∷ xs) (needs_of_own u ns))
-
-pub needs_of_other : (u v : ℕ) (ns : List ℕ) → (v ≡ u → ⊥) → needs_of u (needs_by v ns) ≡ []
-needs_of_other u v [] other = refl
-needs_of_other u v (w ∷ ns) other = rw (ne_eqb v u other) (needs_of_other u v ns other)
-
-pub needs_of_before : (u i : ℕ) (es : List Entry) → i + length es ≤ u → needs_of u (needs_from i es) ≡ []
-needs_of_before u i [] below = refl
-needs_of_before u i (e ∷ es) below = rw (needs_of_both u (needs_by i e.needs) (needs_from (suc i) es), needs_of_other u i e.needs (λ is. omega arith)) (needs_of_before u (suc i) es (omega arith))
-
-length_by : (u : ℕ) (ns : List ℕ) → length (needs_by u ns) ≡ length ns
-length_by u [] = refl
-length_by u (w ∷ ns) = ap suc (length_by u ns)
-
-pub length_needs : (i : ℕ) (es : List Entry) → length (needs_from i es) ≡ need_count es
+pub length_needs : (i : ℕ) (es : List Entry) → length (needs_from i (all_needs es)) ≡ need_count es
 length_needs i [] = refl
-length_needs i (e ∷ es) = omega (arith, length-append (needs_by i e.needs) (needs_from (suc i) es), length_by i e.needs, length_needs (suc i) es)
-
--- the needs of one entry more
-needs_from_more : (i k : ℕ) (es : List Entry) → k < length es → needs_from i (take (suc k) es) ≡ needs_from i (take k es) ++ needs_by (i + k) (get_or es k no_entry).needs
-needs_from_more i k [] more = absurd (omega arith)
-needs_from_more i zero (e ∷ es) more = append-nil (needs_by i e.needs) ∙ ap (λ n. needs_by n e.needs) (sym (add-zero i))
-needs_from_more i (suc k) (e ∷ es) more =
-    let later : suc i + k ≡ i + suc k = omega arith in
-    ap (λ ns. needs_by i e.needs ++ ns) (needs_from_more (suc i) k es (omega arith) ∙ ap (λ n. needs_from (suc i) (take k es) ++ needs_by n (get_or es k no_entry).needs) later) ∙ sym (append_assoc (needs_by i e.needs) (needs_from (suc i) (take k es)) (needs_by (i + suc k) (get_or es k no_entry).needs))
-
--- there are no more of them than of all
-needs_from_few : (i k : ℕ) (es : List Entry) → length (needs_from i (take k es)) ≤ length (needs_from i es)
-needs_from_few i zero es = omega arith
-needs_from_few i (suc k) [] = omega arith
-needs_from_few i (suc k) (e ∷ es) = omega (arith, length-append (needs_by i e.needs) (needs_from (suc i) (take k es)), length-append (needs_by i e.needs) (needs_from (suc i) es), needs_from_few (suc i) k es)
+length_needs i (e ∷ es) = omega (arith, length-append (needs_by i e.needs) (needs_from (suc i) (all_needs es)), length_by i e.needs, length_needs (suc i) es)
 
 -- The needs of one entry.
 
@@ -86,7 +55,7 @@ pub need_read : (ns : List ℕ) (j w : ℕ) (o : Option ℕ) → j < length ns �
 need_read ns j w o inside is some = let here = slice_get-get_or ns j 0 inside in cc
 
 -- no question refuses need number j
-no_refusal : (u w : ℕ) (already : List ℕ) (entries spare : ℕ) → Needs u w already entries spare → need_refusal u w already entries spare ≡ None
+pub no_refusal : (u w : ℕ) (already : List ℕ) (entries spare : ℕ) → Needs u w already entries spare → need_refusal u w already entries spare ≡ None
 no_refusal u w already entries spare n = let fresh = n.fresh in grind (arith, nat_tests, n.there, n.needed_there, n.others, n.few, n.room)
 
 passes : (s t : Open) (u j : ℕ) (ns : List ℕ) → NeedsFit s u ns → Filled (with_needs s.book u (take j ns)) s t → j < length ns → need_refused t u (get_or ns j 0) ≡ None
@@ -108,7 +77,7 @@ passes s t u j ns f filled inside =
       room = omega (arith, f.room);
     }))
 
-needed_ok : (t v : Open) (u w : ℕ) (a : Result (Unit {0}) NeedRefusal) → need_refused t u w ≡ None → Needed t u w a v → is_ok a ≡ true
+pub needed_ok : (t v : Open) (u w : ℕ) (a : Result (Unit {0}) NeedRefusal) → need_refused t u w ≡ None → Needed t u w a v → is_ok a ≡ true
 needed_ok t v u w (Ok i) none h = refl
 needed_ok t v u w (Err e) none h = let never : ◌≡◌ {A = ℕ} 0 1 = cc in absurd (omega arith)
 
@@ -135,7 +104,7 @@ needs_more b s t v u j ns filled inside needed = subst (λ c. Filled c s v) (one
 
 -- the book of all entries, and of the needs of the first k
 abbrev pub needs_of_first : List Entry → ℕ → Book
-needs_of_first es k = record { entries = map amounts_of es; needs = needs_from 0 (take k es) }
+needs_of_first es k = record { entries = map amounts_of es; needs = needs_from 0 (take k (all_needs es)) }
 
 -- the needs of the entries that were read are entered
 pub record NeedsRead (bs : List ℕ) (es : List Entry) (from : Cursor) (s t : Open) : Type 0 where
@@ -145,11 +114,8 @@ pub record NeedsRead (bs : List ℕ) (es : List Entry) (from : Cursor) (s t : Op
 pub needs_none : (bs : List ℕ) (es : List Entry) (s : Open) → SheetOf bs es → s.book ≡ entries_alone es → NeedsRead bs es start s s
 needs_none bs es s x new = record { standing = standing_start bs es x; filled = subst (λ b. Filled b s s) new (filled_none s) }
 
-next_needs : (k : ℕ) (es : List Entry) → k < length es → needs_from 0 (take (k + 1) es) ≡ needs_from 0 (take k es) ++ needs_by k (get_or es k no_entry).needs
-next_needs k es more =
-    let first : k + 1 ≡ suc k = omega arith in
-    let number : 0 + k ≡ k = omega arith in
-    ap (λ n. needs_from 0 (take n es)) first ∙ (needs_from_more 0 k es more ∙ ap (λ n. needs_from 0 (take k es) ++ needs_by n (get_or es k no_entry).needs) number)
+next_needs : (k : ℕ) (es : List Entry) → k < length es → needs_from 0 (take (k + 1) (all_needs es)) ≡ needs_from 0 (take k (all_needs es)) ++ needs_by k (get_or es k no_entry).needs
+next_needs k es more = needs_from_next k (all_needs es) (omega (arith, all_needs_length es)) ∙ ap (λ ns. needs_from 0 (take k (all_needs es)) ++ needs_by k ns) (all_needs_at es k more)
 
 -- the next entry may have its needs
 pub next_fits : (bs : List ℕ) (es : List Entry) (from to : Cursor) (s t : Open) (r : Record) → SheetOf bs es → used (book_of es) ≤ length s.table.now → NeedsRead bs es from s t → HandedOut bs from to r → NeedsFit t r.number (entry_at bs r).needs
@@ -161,19 +127,20 @@ next_fits bs es from to s t r x room n h =
     let sound = sound_at es k x.well.sound more in
     let entries : length t.book.entries ≡ length es = ap (λ (b : Book). length b.entries) n.filled.book ∙ length-map es amounts_of in
     let there : There (length es) e = All-get_or (There (length es)) es k no_entry more x.well.there in
-    let needs : length t.book.needs ≡ length (needs_from 0 (take k es)) = ap (λ (b : Book). length b.needs) n.filled.book in
+    let needs : length t.book.needs ≡ length (needs_from 0 (take k (all_needs es))) = ap (λ (b : Book). length b.needs) n.filled.book in
     let needs_then = ap length (next_needs k es more) in
-    let both = length-append (needs_from 0 (take k es)) (needs_by k e.needs) in
+    let both = length-append (needs_from 0 (take k (all_needs es))) (needs_by k e.needs) in
     let own = length_by k e.needs in
-    let all = needs_from_few 0 (k + 1) es in
+    let all = needs_from_few 0 (k + 1) (all_needs es) in
     let table = n.filled.spared.untouched.0 in
     let size = length-map es amounts_of in
+    let told = all_needs_length es in
     let here : NeedsFit t k e.needs = record {
       there = omega arith;
       all_there = subst (λ m. There m e) (sym entries) there;
       ordered = sound.ordered;
       few = sound.fits.few;
-      none = ap (λ (b : Book). needs_of k b.needs) n.filled.book ∙ needs_of_before k 0 (take k es) (omega (arith, length-take-le k es (omega arith)));
+      none = ap (λ (b : Book). needs_of k b.needs) n.filled.book ∙ needs_of_before k 0 (take k (all_needs es)) (omega (arith, length-take-le k (all_needs es) (omega arith)));
       room = omega arith;
     } in
     subst (λ (d : Entry). NeedsFit t r.number d.needs) (sym now.entry) (subst (λ m. NeedsFit t m e.needs) (sym now.number) here)
@@ -197,7 +164,7 @@ needs_turn bs es from to s t u r x n h filled =
     with_all ns = record { entries = map amounts_of es; needs = ns }
 
 pub needs_all : (bs : List ℕ) (es : List Entry) (from to : Cursor) (s t : Open) → NeedsRead bs es from s t → Handed bs from to (Ok None) → Filled (book_of es) s t
-needs_all bs es from to s t n h = subst (λ b. Filled b s t) (ap with_needs_of (take_all from.number es (omega (arith, at_end bs es from to n.standing h)))) n.filled
+needs_all bs es from to s t n h = subst (λ b. Filled b s t) (ap with_needs_of (take_all from.number (all_needs es) (omega (arith, at_end bs es from to n.standing h, all_needs_length es)))) n.filled
   where
-    with_needs_of : List Entry → Book
-    with_needs_of xs = record { entries = map amounts_of es; needs = needs_from 0 xs }
+    with_needs_of : List (List ℕ) → Book
+    with_needs_of all = record { entries = map amounts_of es; needs = needs_from 0 all }

@@ -12,10 +12,14 @@ amounts_of e = record { earning = amount e.earning; cost = amount e.cost }
 abbrev pub needs_by : ℕ → List ℕ → List Need
 needs_by u ns = map (λ w. record { entry = u; needed = w }) ns
 
--- the needs of the entries, entry by entry, where the first has number i
-abbrev pub needs_from : ℕ → List Entry → List Need
+-- what entries need, entry by entry, where the first has number i
+abbrev pub needs_from : ℕ → List (List ℕ) → List Need
 needs_from i [] = []
-needs_from i (e ∷ es) = needs_by i e.needs ++ needs_from (suc i) es
+needs_from i (ns ∷ rest) = needs_by i ns ++ needs_from (suc i) rest
+
+-- what each of the entries needs
+abbrev pub all_needs : List Entry → List (List ℕ)
+all_needs es = map (λ e. e.needs) es
 
 abbrev pub book_of : List Entry → Book
-book_of es = record { entries = map amounts_of es; needs = needs_from 0 es }
+book_of es = record { entries = map amounts_of es; needs = needs_from 0 (all_needs es) }

@@ -1,5 +1,5 @@
 -- The second pass: entries that are entered one after another.
-use Rattle.std.proofs.Common.{◌≡◌, ℕ, ◌+◌, ◌<◌, ◌≤◌, true, List, [], ◌∷◌, ◌++◌, map, length, get_or, take, None, Ok, Err, Result, sym, refl, ap, ◌∙◌, subst, arith}
+use Rattle.std.proofs.Common.{◌≡◌, ℕ, ◌+◌, ◌<◌, ◌≤◌, true, List, [], ◌∷◌, ◌++◌, map, length, get_or, take, None, Ok, Result, sym, ap, ◌∙◌, subst, arith}
 use Rattle.std.specs.Result.{is_ok}
 use Rattle.std.proofs.lemmas.Bool.Decides.{nat_tests}
 use Rattle.std.proofs.lemmas.List.{length-map, length-take-le, map-append, take_more}
@@ -8,6 +8,7 @@ use Rattle.book.specs.Books.{Amounts, Book}
 use Rattle.book.specs.Calls.{Open, unused, enter_refused, Entered}
 use Rattle.filing.specs.Passes.{Filled}
 use Rattle.filing.proofs.Filling.{filled_entry}
+use Rattle.filing.proofs.Entering.{entered_ok}
 use Rattle.joblist.specs.Entries.{Entry, no_entry}
 use Rattle.joblist.specs.Passes.{Sound, with_entries}
 
@@ -23,10 +24,6 @@ passes es u s t sound room filled inside =
     let table = filled.spared.untouched.0 in
     let left : 0 < unused t = omega arith in
     grind (arith, nat_tests)
-
-entered_ok : (t v : Open) (x y : ℕ) (r : Result ℕ EnterRefusal) → enter_refused t x y ≡ None → Entered t x y r v → is_ok r ≡ true
-entered_ok t v x y (Ok i) none h = refl
-entered_ok t v x y (Err e) none h = let never : ◌≡◌ {A = ℕ} 0 1 = cc in absurd (omega arith)
 
 -- so it is entered
 pub enters : (es : List Entry) (u : ℕ) (s t v : Open) (e : Entry) (r : Result ℕ EnterRefusal) → Sound es → 36864 ≤ length s.table.now → Filled (with_entries (take u es)) s t → u < length es → get_or es u no_entry ≡ e → Entered t e.amounts.earning e.amounts.cost r v → is_ok r ≡ true

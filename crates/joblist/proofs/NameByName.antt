@@ -1,25 +1,24 @@
 -- The third pass for one entry: what it needs, name by name.
-use Rattle.std.proofs.Common.{◌≡◌, Bor, ℕ, suc, ◌+◌, ◌<◌, ◌≤◌, true, List, [], map, length, get_or, take, Some, None, Ok, Err, Option, Result, sym, refl, ap, ◌∙◌, subst, arith}
+use Rattle.std.proofs.Common.{◌≡◌, Bor, ℕ, suc, ◌+◌, ◌<◌, ◌≤◌, true, List, [], map, length, get_or, take, Some, None, Ok, Option, Result, sym, refl, ap, ◌∙◌, subst, arith}
 use Rattle.std.specs.Result.{is_ok}
-use Rattle.std.proofs.lemmas.Bool.Decides.{nat_tests}
 use Rattle.std.proofs.lemmas.List.{append-nil, get_or-map, length-append, length-map, length-take-le, take-map}
 use Rattle.book.specs.declared.refusal.NeedRefusal.{NeedRefusal}
 use Rattle.book.specs.Accepted.{Needs}
 use Rattle.book.specs.Books.{Book, needs_of}
 use Rattle.book.specs.Calls.{Open, unused, need_refused, Needed}
-use Rattle.book.specs.Refusals.{need_refusal}
 use Rattle.book.proofs.Keeping.{needs_of_both}
-use Rattle.filing.specs.Books.{needs_by}
+use Rattle.filing.specs.Books.{needs_by, needs_from}
 use Rattle.filing.specs.Passes.{Filled, with_needs}
 use Rattle.filing.proofs.Filling.{filled_none}
-use Rattle.filing.proofs.Needing.{needs_more}
+use Rattle.filing.proofs.NeedLists.{needs_of_own, length_by, needs_of_before}
+use Rattle.filing.proofs.Needing.{no_refusal, needed_ok, needs_more}
 use Rattle.joblist.specs.declared.refusal.Fault.{Fault}
 use Rattle.joblist.specs.Entries.{Entry, no_entry}
 use Rattle.joblist.specs.Faults.{number_of, need_fault}
-use Rattle.joblist.specs.JobLists.{first_below, name_fault, needs_from}
+use Rattle.joblist.specs.JobLists.{first_below, name_fault, numbers}
 use Rattle.joblist.specs.Passes.{NeedsFit, numbers_of}
 use Rattle.joblist.proofs.Firsts.{first_none, first_next, first_stays}
-use Rattle.joblist.proofs.NeedLists.{needs_of_own, length_by, needs_before, needs_few_before}
+use Rattle.joblist.proofs.NeedLists.{needs_few_before}
 use Rattle.joblist.proofs.Numbering.{fresh, fine}
 
 -- the fault of name number k that entry number u needs
@@ -37,10 +36,6 @@ names_none es u s = record {
   filled = subst (λ ns. Filled (record { entries = s.book.entries; needs = ns }) s s) (sym (append-nil s.book.needs)) (filled_none s);
 }
 
--- what no question of a book refuses is not refused
-no_refusal : (u w : ℕ) (already : List ℕ) (entries spare : ℕ) → Needs u w already entries spare → need_refusal u w already entries spare ≡ None
-no_refusal u w already entries spare n = let fresh = n.fresh in grind (arith, nat_tests, n.there, n.needed_there, n.others, n.few, n.room)
-
 -- the book then has the same entries, and entry u needs the first k of its names
 entries_kept : (es : List Entry) (u k : ℕ) (s t : Open) → NeedsFit es u s → NamesEntered es u k s t → length t.book.entries ≡ length es
 entries_kept es u k s t fits entered = ap (λ (b : Book). length b.entries) entered.filled.book ∙ (ap (λ (b : Book). length b.entries) fits.book ∙ length-map es (λ e. e.amounts))
@@ -48,7 +43,7 @@ entries_kept es u k s t fits entered = ap (λ (b : Book). length b.entries) ente
 needs_kept : (es : List Entry) (u k : ℕ) (s t : Open) → NeedsFit es u s → NamesEntered es u k s t → needs_of u t.book.needs ≡ take k (numbers_of es u)
 needs_kept es u k s t fits entered =
     let ns = numbers_of es u in
-    let own : needs_of u s.book.needs ≡ [] = ap (λ (b : Book). needs_of u b.needs) fits.book ∙ needs_before es u 0 (take u es) (omega (arith, length-take-le u es (omega (arith, fits.there)))) in
+    let own : needs_of u s.book.needs ≡ [] = ap (λ (b : Book). needs_of u b.needs) fits.book ∙ needs_of_before u 0 (take u (map (numbers es) es)) (omega (arith, length-take-le u (map (numbers es) es) (omega (arith, length-map es (numbers es), fits.there)))) in
     ap (λ (b : Book). needs_of u b.needs) entered.filled.book ∙ (needs_of_both u s.book.needs (needs_by u (take k ns)) ∙ rw (own, needs_of_own u (take k ns)) refl)
 
 -- the book has room for it
@@ -56,7 +51,7 @@ room_left : (es : List Entry) (u k : ℕ) (s t : Open) → NeedsFit es u s → N
 room_left es u k s t fits entered inside =
     let long = length-take-le k (numbers_of es u) (omega (arith, length-map (get_or es u no_entry).needs (number_of es))) in
     let entries : length t.book.entries ≡ length es = entries_kept es u k s t fits entered in
-    let needs : length t.book.needs ≡ length (needs_from es 0 (take u es)) + length (take k (numbers_of es u)) = ap (λ (b : Book). length b.needs) entered.filled.book ∙ omega (arith, length-append s.book.needs (needs_by u (take k (numbers_of es u))), length_by u (take k (numbers_of es u)), ap (λ (b : Book). length b.needs) fits.book) in
+    let needs : length t.book.needs ≡ length (needs_from 0 (take u (map (numbers es) es))) + length (take k (numbers_of es u)) = ap (λ (b : Book). length b.needs) entered.filled.book ∙ omega (arith, length-append s.book.needs (needs_by u (take k (numbers_of es u))), length_by u (take k (numbers_of es u)), ap (λ (b : Book). length b.needs) fits.book) in
     let before = needs_few_before es u fits.sound fits.there in
     let four = fits.sound.needs u fits.there in
     omega (arith, fits.room, fits.there, fits.sound.few, entered.filled.spared.untouched.0)
@@ -98,10 +93,6 @@ number_found es u names k d are inside =
     ap (number_of es) (names_at es u names k d are inside).1 ∙ sym (get_or-map (number_of es) (get_or es u no_entry).needs k [] 0 there)
 
 -- A name that is found is entered, and the next one's turn comes; one with a fault is told.
-
-needed_ok : (t v : Open) (u w : ℕ) (a : Result (Unit {0}) NeedRefusal) → need_refused t u w ≡ None → Needed t u w a v → is_ok a ≡ true
-needed_ok t v u w (Ok i) none h = refl
-needed_ok t v u w (Err e) none h = let never : ◌≡◌ {A = ℕ} 0 1 = cc in absurd (omega arith)
 
 pub name_enters : (es : List Entry) (u k w : ℕ) (s t v : Open) (a : Result (Unit {0}) NeedRefusal) → NeedsFit es u s → NamesEntered es u k s t → k < length (get_or es u no_entry).needs → fault_at es u k ≡ None → w ≡ get_or (numbers_of es u) k 0 → Needed t u w a v → is_ok a ≡ true
 name_enters es u k w s t v a fits entered inside none is = needed_ok t v u w a (subst (λ n. need_refused t u n ≡ None) (sym is) (passes es u k s t fits entered inside none))

@@ -16,7 +16,7 @@ use Rattle.joblist.specs.JobLists.{first_below, line_refusal, name_fault, needs_
 use Rattle.joblist.specs.Names.{name_of, WellNamed}
 use Rattle.joblist.proofs.Firsts.{first_each}
 use Rattle.joblist.proofs.Soundness.{no_fault, line_passed}
-use Rattle.joblist.proofs.NeedLists.{needs_own}
+use Rattle.joblist.proofs.NeedLists.{needs_told}
 use Rattle.joblist.proofs.Numbering.{named, fine}
 use Rattle.joblist.proofs.NameByName.{fault_at}
 
@@ -84,8 +84,8 @@ well_told ls lines needs =
     let long = length-map ls entry_of in
     record {
       distinct = λ u v first second same. distinct ls u v lines (omega arith) (omega arith) same;
-      there = λ u inside. subst (AllByRecursion (λ w. w < length es)) (sym (needs_own es u 0 u es (omega arith) inside)) (all_there es (get_or es u no_entry).needs (λ k there. known es u k needs inside there));
-      named = λ u inside. ap (map (name_of es)) (needs_own es u 0 u es (omega arith) inside) ∙ names_back es (get_or es u no_entry).needs (λ k there. known es u k needs inside there);
+      there = λ u inside. subst (AllByRecursion (λ w. w < length es)) (sym (needs_told es u inside)) (all_there es (get_or es u no_entry).needs (λ k there. known es u k needs inside there));
+      named = λ u inside. ap (map (name_of es)) (needs_told es u inside) ∙ names_back es (get_or es u no_entry).needs (λ k there. known es u k needs inside there);
     }
 
 pub well_named : (text : List ℕ) (b : Book) → book_of_text text ≡ Ok b → WellNamed (map entry_of (lines_of text)) b

@@ -1,5 +1,5 @@
 -- The third pass for all entries: what they need, entry by entry.
-use Rattle.std.proofs.Common.{◌≡◌, ℕ, suc, ◌+◌, ◌<◌, List, ◌++◌, map, length, get_or, take, Some, None, Ok, Err, sym, ap, ◌∙◌, subst, arith}
+use Rattle.std.proofs.Common.{◌≡◌, ℕ, suc, ◌+◌, ◌<◌, List, map, length, get_or, Some, None, Ok, Err, sym, ap, ◌∙◌, subst, arith}
 use Rattle.std.proofs.lemmas.List.{length-append}
 use Rattle.book.specs.Books.{Need, Book}
 use Rattle.book.specs.Calls.{Open}
@@ -9,7 +9,7 @@ use Rattle.filing.proofs.Filling.{filled_none, filled_on}
 use Rattle.joblist.specs.declared.refusal.Fault.{Fault}
 use Rattle.joblist.specs.declared.refusal.JobRefusal.TheVariants.{Faulty}
 use Rattle.joblist.specs.Entries.{Entry, no_entry}
-use Rattle.joblist.specs.JobLists.{first_below, at_line, needs_refusal, needs_from}
+use Rattle.joblist.specs.JobLists.{first_below, at_line, needs_refusal}
 use Rattle.joblist.specs.Passes.{NeedsEntered, numbers_of, with_entries, with_needs_of}
 use Rattle.joblist.proofs.Firsts.{first_none, first_next, first_stays}
 use Rattle.joblist.proofs.NeedLists.{needs_next}
@@ -29,13 +29,12 @@ needs_entered es n s t v so_far inside (none, filled) =
     let line = (get_or es n no_entry).line in
     let before = with_needs_of es n in
     let after = with_needs before n (numbers_of es n) in
-    let first : 0 + n ≡ n = omega arith in
-    let next : with_needs_of es (suc n) ≡ after = ap of_needs (needs_next es 0 n es inside ∙ ap (λ k. needs_from es 0 (take n es) ++ needs_by k (numbers_of es n)) first) in
+    let next : with_needs_of es (n + 1) ≡ after = ap of_needs (needs_next es n inside) in
     let then : Filled after t v = subst (λ b. Filled (with_needs b n (numbers_of es n)) t v) so_far.filled.book filled in
     let both : Filled after s v = filled_on before after s t v so_far.filled then (omega arith) (omega (arith, length-append before.needs (needs_by n (numbers_of es n)))) in
     record {
       passed = ap (λ k. first_below k (needs_refusal es)) (sym more) ∙ (first_next (needs_refusal es) n so_far.passed ∙ ap (at_line line) none);
-      filled = subst (λ k. Filled (with_needs_of es k) s v) more (subst (λ b. Filled b s v) (sym next) both);
+      filled = subst (λ b. Filled b s v) (sym next) both;
     }
   where
     of_needs : List Need → Book

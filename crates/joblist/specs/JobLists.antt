@@ -1,8 +1,8 @@
 -- What a job list means: the book that it tells, or the first question whose answer is no.
-use Rattle.std.specs.Prelude.{ℕ, zero, suc, cond, nat_lt, List, [], ◌∷◌, ◌++◌, map, length, take, Some, None, Ok, Err, Option, Result, slice_index_or}
+use Rattle.std.specs.Prelude.{ℕ, zero, suc, cond, nat_lt, List, [], map, length, take, Some, None, Ok, Err, Option, Result, slice_index_or}
 use Rattle.std.specs.Option.{option_or, option_map}
-use Rattle.book.specs.Books.{Need, Book}
-use Rattle.filing.specs.Books.{needs_by}
+use Rattle.book.specs.Books.{Book}
+use Rattle.filing.specs.Books.{needs_from}
 use Rattle.joblist.specs.declared.refusal.Fault.{Fault}
 use Rattle.joblist.specs.declared.refusal.JobRefusal.{JobRefusal}
 use Rattle.joblist.specs.declared.refusal.JobRefusal.TheVariants.{TooLong, Faulty}
@@ -33,14 +33,13 @@ name_fault es u =
 abbrev pub needs_refusal : List Entry → ℕ → Option JobRefusal
 needs_refusal es u = at_line (slice_index_or es u no_entry).line (name_fault es u)
 
--- what these entries need, where the first is number u of all: the numbers of those with the names
-abbrev pub needs_from : List Entry → ℕ → List Entry → List Need
-needs_from all u [] = []
-needs_from all u (e ∷ es) = needs_by u (map (number_of all) e.needs) ++ needs_from all (suc u) es
+-- the numbers of what an entry needs
+abbrev pub numbers : List Entry → Entry → List ℕ
+numbers all e = map (number_of all) e.needs
 
 -- the book of entries, each with the number of its place, and what they need, entry by entry
 abbrev pub book_of : List Entry → Book
-book_of es = record { entries = map (λ e. e.amounts) es; needs = needs_from es 0 es }
+book_of es = record { entries = map (λ e. e.amounts) es; needs = needs_from 0 (map (numbers es) es) }
 
 -- r, unless there is a refusal
 abbrev pub unless : Option JobRefusal → Result Book JobRefusal → Result Book JobRefusal

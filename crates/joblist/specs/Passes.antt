@@ -3,6 +3,7 @@ use Rattle.std.specs.Prelude.{◌≡◌, ℕ, ◌<◌, ◌≤◌, cond, nat_lt, 
 use Rattle.std.specs.declared.alloc.Global.{Global}
 use Rattle.book.specs.Books.{Book}
 use Rattle.book.specs.Calls.{Open}
+use Rattle.filing.specs.Books.{needs_from}
 use Rattle.filing.specs.Passes.{Filled, with_needs}
 use Rattle.filing.specs.Sheets.{sheet_of}
 use Rattle.filing.specs.Writes.{LoadsBack}
@@ -12,7 +13,7 @@ use Rattle.joblist.specs.declared.refusal.JobRefusal.{JobRefusal}
 use Rattle.joblist.specs.Lines.{Line}
 use Rattle.joblist.specs.Entries.{Entry, no_entry, entry_of}
 use Rattle.joblist.specs.Faults.{line_fault, number_of}
-use Rattle.joblist.specs.JobLists.{first_below, line_refusal, name_fault, needs_refusal, needs_from, book_of, book_of_entries}
+use Rattle.joblist.specs.JobLists.{first_below, line_refusal, name_fault, needs_refusal, numbers, book_of, book_of_entries}
 
 -- the entry that the code holds
 abbrev pub value_of : TheEntry → Entry
@@ -59,11 +60,11 @@ with_entries es = record { entries = map (λ e. e.amounts) es; needs = [] }
 
 -- the book of entries, and of what the first n of them need
 abbrev pub with_needs_of : List Entry → ℕ → Book
-with_needs_of es n = record { entries = map (λ e. e.amounts) es; needs = needs_from es 0 (take n es) }
+with_needs_of es n = record { entries = map (λ e. e.amounts) es; needs = needs_from 0 (take n (map (numbers es) es)) }
 
 -- the numbers of what entry number u needs
 abbrev pub numbers_of : List Entry → ℕ → List ℕ
-numbers_of es u = map (number_of es) (slice_index_or es u no_entry).needs
+numbers_of es u = numbers es (slice_index_or es u no_entry)
 
 -- the book s may have what entry number u needs
 pub record NeedsFit (es : List Entry) (u : ℕ) (s : Open) : Type 0 where
