@@ -13,5 +13,5 @@ mod sealing;
 
 pub use open::OpenBook;
 pub use record::Record;
-pub use refusal::{EnterRefusal, NeedRefusal};
+pub use refusal::{EnterRefusal, MOST_AMOUNT, MOST_ENTRIES, MOST_NEEDS, NeedRefusal};
 pub use sealed::SealedBook;

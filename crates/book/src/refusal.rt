@@ -8,13 +8,13 @@ ghost use Rattle.book.specs.Tables.{columns, AtMostFour};
 use super::record::Record;
 
 // The largest amount of an entry. It and the most entries are those of a sheet, on whose crate the book does not stand.
-const MOST_AMOUNT: u32 = 1_000_000;
+pub const MOST_AMOUNT: u32 = 1_000_000;
 
 // The most entries that a book may have.
-const MOST_ENTRIES: usize = 4_096;
+pub const MOST_ENTRIES: usize = 4_096;
 
 // The most needs that an entry may have.
-const MOST_NEEDS: u8 = 4;
+pub const MOST_NEEDS: usize = 4;
 
 // The questions put to an entry, in this order.
 #[derive(Clone, Copy, PartialEq, Eq, Debug)]
@@ -103,7 +103,7 @@ impl NeedRefusal {
             Err(NeedRefusal::Itself)
         } else if record.has_need(needed as u16) {
             Err(NeedRefusal::Repeated)
-        } else if record.needs >= MOST_NEEDS {
+        } else if usize::from(record.needs) >= MOST_NEEDS {
             Err(NeedRefusal::ManyNeeds)
         } else if unused < 2 {
             Err(NeedRefusal::FewRecords)

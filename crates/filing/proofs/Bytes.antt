@@ -5,7 +5,7 @@ use Rattle.std.proofs.Math.Nat.{pow-succ', div-div-eq-div-mul}
 use Rattle.std.proofs.lemmas.List.{append_assoc, length-append, length-take-le, take_more, flat_map_more}
 use Rattle.std.specs.Int.{byte_at, bytes_high_first, to_be_bytes}
 use Rattle.sheet.specs.Format.{bytes, flag, amount_bytes, need_bytes, entry_bytes}
-use Rattle.sheet.proofs.Entries.{length_amount, length_needs}
+use Rattle.sheet.proofs.Entries.{flag_small, length_amount, length_needs}
 use Rattle.filing.specs.Sheets.{present}
 
 -- the bits of four needs and fewer are below 16
@@ -27,20 +27,13 @@ unfolding bytes
 bytes_same zero x = refl
 bytes_same (suc k) x = last_byte k x ∙ ap (λ l. l ++ (x % 256) ∷ []) (bytes_same k (x / 256))
 
-pub flag_small : (x : ℕ) → flag (present x) ≤ 1
-flag_small zero = omega arith
-flag_small (suc x) = omega arith
-
 -- the field of an amount that is not 0
 pub amount_some : (x : ℕ) → 0 < x → amount_bytes (present x) ≡ to_be_bytes w32 x
 amount_some zero h = absurd (omega arith)
 amount_some (suc x) h = sym (bytes_same 4 (suc x))
 
-pub amount_none : (x : ℕ) → x ≡ 0 → amount_bytes (present x) ≡ []
-amount_none x is = ap (λ y. amount_bytes (present y)) is
-
 pub amount_short : (x : ℕ) → length (amount_bytes (present x)) ≤ 4
-amount_short x = omega (arith, length_amount (present x), flag_small x)
+amount_short x = omega (arith, length_amount (present x), flag_small (present x))
 
 need_more : (ns : List ℕ) (k : ℕ) → k < length ns → need_bytes (take (k + 1) ns) ≡ need_bytes (take k ns) ++ bytes 2 (get_or ns k 0)
 need_more ns k more = ap need_bytes (take_more ns k 0 more) ∙ sym (flat_map_more (bytes 2) [] (take k ns) (get_or ns k 0))

@@ -10,4 +10,5 @@ pub mod Wholes
 pub mod Bytes
 pub mod Ascending
 pub mod Sheets
+pub mod Putting
 pub mod Back

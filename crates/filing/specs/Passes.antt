@@ -1,4 +1,4 @@
--- What the inner functions of loading agree on.
+-- What the inner functions of loading agree on, and those of drafting a job list.
 use Rattle.std.specs.Prelude.{◌≡◌, ℕ, ◌+◌, ◌*◌, ◌<◌, ◌≤◌, List, [], ◌++◌, map, length}
 use Rattle.std.specs.List.{AllByRecursion}
 use Rattle.sheet.specs.Format.{Entry}

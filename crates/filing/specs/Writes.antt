@@ -21,6 +21,11 @@ Written b before (Ok n) after = (n ≡ length (sheet_of b)) × (n ≤ length bef
 abbrev pub OneSheet : Book → Type 0
 OneSheet b = (c : Book) → SameBook c b → sheet_of c ≡ sheet_of b
 
--- where b has entries, a load of the sheet bs into a new book, over any table that is long enough, is accepted and gives the same book
+-- a load answered r and left t: it was accepted, with as many entries and needs as b has, and t is the same book
+pub record LoadedAs (b : Book) (r : Result Counts LoadRefusal) (t : Open) : Type 0 where
+  pub accepted : r ≡ Ok (record { entries = length b.entries; needs = length b.needs })
+  pub same : SameBook t.book b
+
+-- where b has entries, each load of the sheet bs into a new book over a table that is long enough is such a one
 abbrev pub LoadsBack : Book → List ℕ → Type 0
-LoadsBack b bs = (table : MutBor (List Record)) (r : Result Counts LoadRefusal) (t : Open) → 0 < length b.entries → used b ≤ length table.now → Loaded (new_book table) bs r t → (r ≡ Ok (record { entries = length b.entries; needs = length b.needs })) × SameBook t.book b
+LoadsBack b bs = 0 < length b.entries → (table : MutBor (List Record)) → used b ≤ length table.now → (r : Result Counts LoadRefusal) (t : Open) → Loaded (new_book table) bs r t → LoadedAs b r t

@@ -8,4 +8,4 @@ mod writing;
 
 pub use loading::load;
 pub use refusal::{LoadRefusal, WriteRefusal};
-pub use writing::write;
+pub use writing::{MOST_SHEET_BYTES, write};

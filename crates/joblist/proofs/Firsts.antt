@@ -1,5 +1,5 @@
 -- The first of many, and questions that are put one after another.
-use Rattle.std.proofs.Common.{◌≡◌, Bool, true, false, not, cond, ℕ, zero, suc, ◌+◌, ◌<◌, ◌≤◌, ◌-◌, Some, None, Option, refl, sym, subst, ⊎_elim, arith}
+use Rattle.std.proofs.Common.{◌≡◌, Bool, true, false, cond, ℕ, zero, suc, ◌+◌, ◌<◌, ◌≤◌, ◌-◌, Some, None, Option, refl, sym, subst, ⊎_elim, arith}
 use Rattle.std.specs.Option.{option_or}
 use Rattle.std.proofs.lemmas.Bool.{cases_lt}
 use Rattle.joblist.specs.declared.refusal.Fault.{Fault}
@@ -45,7 +45,3 @@ first_each f (suc n) k none below =
     (λ (earlier : k < n). first_each f n k both.0 earlier)
     (λ (last : n ≤ k). let is : n ≡ k = omega arith in subst (λ j. f j ≡ None) is both.1)
     (cases_lt k n)
-
-pub not_true : (b : Bool) → not b ≡ true → b ≡ false
-not_true true h = sym h
-not_true false h = refl

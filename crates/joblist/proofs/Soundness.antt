@@ -3,7 +3,7 @@ use Rattle.std.proofs.Common.{◌≡◌, ℕ, ◌<◌, ◌≤◌, Bool, true, fa
 use Rattle.std.specs.Char.{is_ascii_digit}
 use Rattle.std.specs.List.{list_all}
 use Rattle.std.specs.Str.Parse.{digits_value}
-use Rattle.std.proofs.lemmas.Bool.{cases_lt, false≢true}
+use Rattle.std.proofs.lemmas.Bool.{and_parts, cases_lt, not-true}
 use Rattle.std.proofs.lemmas.Bool.Decides.{nat_tests}
 use Rattle.std.proofs.lemmas.List.{get_or-map, length-map, length-take-le}
 use Rattle.std.specs.declared.alloc.Global.{Global}
@@ -17,7 +17,7 @@ use Rattle.joblist.specs.Entries.{Entry, no_line, no_entry, word, is_job, is_set
 use Rattle.joblist.specs.Faults.{tells_entry, is_taken, line_fault}
 use Rattle.joblist.specs.JobLists.{first_below, at_line, line_refusal}
 use Rattle.joblist.specs.Passes.{value_of, entries_of, LinesRead, Small, Sound}
-use Rattle.joblist.proofs.Firsts.{asked, not_true, first_each}
+use Rattle.joblist.proofs.Firsts.{asked, first_each}
 
 -- no question refused this line
 pub record Passed (before : List Entry) (words : List (List ℕ)) : Type 0 where
@@ -27,16 +27,8 @@ pub record Passed (before : List Entry) (words : List (List ℕ)) : Type 0 where
   pub few : length before < 4096
   pub needs : length (drop (first_need words) words) ≤ 4
 
-second_too : (a b : Bool) → (a && b) ≡ true → b ≡ true
-second_too true b h = h
-second_too false b never = absurd (false≢true never)
-
-first_too : (a b : Bool) → (a && b) ≡ true → a ≡ true
-first_too true b h = refl
-first_too false b never = absurd (false≢true never)
-
 is_small : (word : List ℕ) → is_amount word ≡ true → digits_value 10 word ≤ 1000000
-is_small word is = let small = second_too (list_all is_ascii_digit word) (nat_le (digits_value 10 word) 1000000) is in grind (arith, nat_tests)
+is_small word is = let small = (and_parts (list_all is_ascii_digit word) (nat_le (digits_value 10 word) 1000000) is).1 in grind (arith, nat_tests)
 
 passed : (before : List Entry) (words : List (List ℕ)) → line_fault before words ≡ None → Passed before words
 passed before words none =
@@ -45,11 +37,10 @@ passed before words none =
     let third = asked (not (is_taken before (word words 1))) NameTaken _ second.1 in
     let fourth = asked (nat_lt (length before) 4096) TooMany _ third.1 in
     let fifth = asked (nat_le (length (drop (first_need words) words)) 4) ManyNeeds None fourth.1 in
-    let one = is_small (first_amount words) (first_too (is_amount (first_amount words)) (is_amount (last_amount words)) second.0) in
-    let other = is_small (last_amount words) (second_too (is_amount (first_amount words)) (is_amount (last_amount words)) second.0) in
+    let both = and_parts (is_amount (first_amount words)) (is_amount (last_amount words)) second.0 in
     let room = fourth.0 in
     let four = fifth.0 in
-    record { first = one; last = other; new = not_true (is_taken before (word words 1)) third.0; few = grind (arith, nat_tests); needs = grind (arith, nat_tests) }
+    record { first = is_small (first_amount words) both.0; last = is_small (last_amount words) both.1; new = not-true (is_taken before (word words 1)) third.0; few = grind (arith, nat_tests); needs = grind (arith, nat_tests) }
 
 -- a line without a refusal has no fault
 pub no_fault : (n : ℕ) (o : Option Fault) → at_line n o ≡ None → o ≡ None

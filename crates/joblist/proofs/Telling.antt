@@ -21,9 +21,6 @@ refusal_told es s t x is = ap (λ o. unless o (Ok (book_of es))) is
 short : (text : List ℕ) → length text ≤ 1048576 → book_of_text text ≡ book_of_lines (lines_of text)
 short text few = let test : nat_lt 1048576 (length text) ≡ false = grind (arith, nat_tests) in rw test refl
 
-pub line_told : (text : List ℕ) (x : JobRefusal) → length text ≤ 1048576 → LinesRead (lines_of text) (Err x) → Drafted text (Err x)
-line_told text x few is = short text few ∙ ap (λ o. unless o (book_of_entries (map entry_of (lines_of text)))) is
-
 lines_told : (text : List ℕ) (es : List Entry) → length text ≤ 1048576 → LinesRead (lines_of text) (Ok es) → book_of_text text ≡ book_of_entries es
 lines_told text es few (none, are) = short text few ∙ (ap (λ o. unless o (book_of_entries (map entry_of (lines_of text)))) none ∙ ap book_of_entries (sym are))
 

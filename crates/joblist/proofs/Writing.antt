@@ -3,18 +3,11 @@ use Rattle.std.proofs.Common.{◌≡◌, ℕ, ◌≤◌, true, List, ◌++◌, l
 use Rattle.std.specs.Result.{is_ok}
 use Rattle.std.proofs.Math.Seq.{take-append_seam}
 use Rattle.std.proofs.lemmas.List.{length-append, take-append-le, take-take}
-use Rattle.book.specs.declared.open.OpenBook.{OpenBook}
 use Rattle.book.specs.Books.{Book}
-use Rattle.book.specs.Values.{open_of}
-use Rattle.book.proofs.Proper.{proper}
 use Rattle.filing.specs.declared.refusal.WriteRefusal.{WriteRefusal}
 use Rattle.filing.specs.declared.refusal.WriteRefusal.TheVariants.{ShortBuffer}
 use Rattle.filing.specs.Sheets.{sheet_of}
 use Rattle.filing.specs.Writes.{Written}
-use Rattle.filing.proofs.Sheets.{first_short}
-
-pub sheet_short : (b : OpenBook) → length (sheet_of (open_of b).book) ≤ 69632
-sheet_short b = omega (arith, first_short (open_of b).book (length (open_of b).book.entries) (proper b), (proper b).few)
 
 pub is_written : (b : Book) (before after : List ℕ) (r : Result ℕ WriteRefusal) → length (sheet_of b) ≤ length before → Written b before r after → is_ok r ≡ true
 is_written b before after (Ok n) room written = refl

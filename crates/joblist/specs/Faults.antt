@@ -7,7 +7,7 @@ use Rattle.joblist.specs.declared.refusal.Fault.TheVariants.{NoEntry, AmountRang
 use Rattle.joblist.specs.Amounts.{is_amount}
 use Rattle.joblist.specs.Entries.{Entry, word, is_job, is_set_up, is_both, first_need, first_amount, last_amount}
 
--- of some questions, each with its answer and the fault that it finds where that is no: the first fault
+-- each question has its answer, and the fault that it finds where the answer is no: the first fault
 abbrev pub first_no : List (Bool × Fault) → Option Fault
 first_no [] = None
 first_no ((answer, f) ∷ more) = cond answer (first_no more) (Some f)

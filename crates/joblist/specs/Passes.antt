@@ -10,10 +10,16 @@ use Rattle.filing.specs.Writes.{LoadsBack}
 use Rattle.joblist.specs.declared.entry.Entry.{Entry as TheEntry}
 use Rattle.joblist.specs.declared.refusal.Fault.{Fault}
 use Rattle.joblist.specs.declared.refusal.JobRefusal.{JobRefusal}
+use Rattle.std.specs.Str.Parse.{digits_value}
+use Rattle.joblist.specs.Amounts.{is_amount}
 use Rattle.joblist.specs.Lines.{Line}
 use Rattle.joblist.specs.Entries.{Entry, no_entry, entry_of}
 use Rattle.joblist.specs.Faults.{line_fault, number_of}
 use Rattle.joblist.specs.JobLists.{first_below, line_refusal, name_fault, needs_refusal, numbers, book_of, book_of_entries}
+
+-- the amount that a word tells
+abbrev pub amount_of : List ℕ → Option ℕ
+amount_of word = cond (is_amount word) (Some (digits_value 10 word)) None
 
 -- the entry that the code holds
 abbrev pub value_of : TheEntry → Entry

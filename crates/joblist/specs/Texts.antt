@@ -7,10 +7,10 @@ use Rattle.joblist.specs.declared.refusal.JobRefusal.TheVariants.{TooLong, Fault
 use Rattle.joblist.specs.Refusals.{question}
 
 abbrev pub fault_text : Fault → List ℕ
-fault_text NoEntry = codes "it is not job, set-up or both, then a name and what it earns or costs"
-fault_text AmountRange = codes "an amount is not a number from 0 to 1000000"
+fault_text NoEntry = codes "it is not job or set-up, a name and an amount, nor both, a name and two amounts"
+fault_text AmountRange = codes "what stands behind its name is not a number from 0 to 1000000"
 fault_text NameTaken = codes "an earlier line has this name"
-fault_text TooMany = codes "there are 4096 entries before it"
+fault_text TooMany = codes "it is past the first 4096 entries"
 fault_text ManyNeeds = codes "it needs more than four"
 fault_text Unknown = codes "it needs a name that no line has"
 fault_text Itself = codes "it needs itself"

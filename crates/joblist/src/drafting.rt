@@ -10,17 +10,15 @@ use super::entry::Entry;
 use super::filling::{enter_all, need_all};
 use super::reading::read_lines;
 use super::refusal::JobRefusal;
-use book::{OpenBook, Record};
+use book::{MOST_ENTRIES, MOST_NEEDS, OpenBook, Record};
+use filing::MOST_SHEET_BYTES;
 use std::alloc::{AllocError, Global};
 
 // The most bytes that a job list may have.
 pub const MOST_BYTES: usize = 1_048_576;
 
-// How many records the book's table has: one for each of 4,096 entries, and two for each of four needs of theirs.
-const RECORDS: usize = 36_864;
-
-// The most bytes of a sheet: 17 for each of 4,096 entries.
-const SHEET_BYTES: usize = 69_632;
+// How many records the largest book uses: one for each entry, and two for each need.
+const RECORDS: usize = MOST_ENTRIES * (1 + 2 * MOST_NEEDS);
 
 // The order sheet of the book that a job list tells. A text that is longer than a job list may be is refused unread.
 pub fn to_sheet(heap: Global, text: &[u8]) -> Result<Result<Vec<u8>, JobRefusal>, AllocError>
@@ -55,7 +53,7 @@ fn write_sheet(heap: Global, book: &OpenBook) -> Result<Vec<u8>, AllocError>
     ensures whole { IfOk result (λ sheet. vec_items sheet ≡ sheet_of (open_of book.now).book) }
     ensures back { IfOk result (λ sheet. LoadsBack (open_of book.now).book (vec_items sheet)) }
 {
-    let mut sheet = vec![in heap; 0; SHEET_BYTES]?;
+    let mut sheet = vec![in heap; 0; MOST_SHEET_BYTES]?;
     let length = filing::write(book, &mut sheet).unwrap();
     sheet.truncate(length);
     Ok(sheet)

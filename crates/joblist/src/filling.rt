@@ -54,7 +54,7 @@ fn enter_needs(book: &mut OpenBook, entries: &[Entry], number: usize) -> Result<
     Ok(())
 }
 
-// The number of the entry with a name, which another entry needs, whose line names others before it.
+// The number of the entry with this name, for entry `number`, whose line has the names `before` in front of it.
 fn find(entries: &[Entry], number: usize, before: &[&[u8]], name: &[u8]) -> Result<usize, Fault>
     ensures fault { result_err result ≡ need_fault (map value_of entries.now) number (map (λ other. other.now) before.now) name.now }
     ensures number { IfOk result (λ needed. needed ≡ number_of (map value_of entries.now) name.now) }

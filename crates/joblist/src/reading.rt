@@ -10,12 +10,8 @@ ghost use Rattle.joblist.specs.Passes.{value_of, LineRead, LinesRead, entries_of
 use super::entry::Entry;
 use super::refusal::{Fault, JobRefusal};
 use super::words::{amount_of, says, words_of};
+use book::{MOST_ENTRIES, MOST_NEEDS};
 use std::alloc::{AllocError, Global};
-
-// The most entries of a job list, and the most needs of one: those of a book, whose crate keeps them to itself.
-const MOST_ENTRIES: usize = 4_096;
-
-const MOST_NEEDS: usize = 4;
 
 // The words that begin the line of an entry.
 const JOB: &[u8] = b"job";
@@ -48,7 +44,7 @@ fn is_taken(entries: &[Entry], name: &[u8]) -> bool
     entries.iter().any(|entry| entry.name == name)
 }
 
-// What an entry earns and costs whose line begins with such a word, and tells these as its first amount and its last.
+// What an entry earns and what it costs, by the first word of its line, and its first and its last amount.
 fn earning_and_cost(word: &[u8], first: u32, last: u32) -> (u32, u32)
     ensures { result ≡ (cond (bytes_eq word.now (codes "set-up")) 0 first, cond (bytes_eq word.now (codes "job")) 0 last) }
 {

@@ -54,11 +54,14 @@ impl fmt::Display for Fault {
         match self {
             Fault::NoEntry => write!(
                 f,
-                "it is not job, set-up or both, then a name and what it earns or costs"
+                "it is not job or set-up, a name and an amount, nor both, a name and two amounts"
             ),
-            Fault::AmountRange => write!(f, "an amount is not a number from 0 to 1000000"),
+            Fault::AmountRange => write!(
+                f,
+                "what stands behind its name is not a number from 0 to 1000000"
+            ),
             Fault::NameTaken => write!(f, "an earlier line has this name"),
-            Fault::TooMany => write!(f, "there are 4096 entries before it"),
+            Fault::TooMany => write!(f, "it is past the first 4096 entries"),
             Fault::ManyNeeds => write!(f, "it needs more than four"),
             Fault::Unknown => write!(f, "it needs a name that no line has"),
             Fault::Itself => write!(f, "it needs itself"),

@@ -1,12 +1,10 @@
 // The words of a line, and the amounts that words tell.
 ghost use Rattle.std.specs.Prelude.{◌≡◌, IfOk, map, vec_items};
-ghost use Rattle.joblist.specs.Amounts.{amount_of};
+ghost use Rattle.joblist.specs.Passes.{amount_of};
 ghost use Rattle.joblist.specs.Lines.{is_blank, words_of, says};
 
+use book::MOST_AMOUNT;
 use std::alloc::{AllocError, Global};
-
-// The largest amount of an entry. It and the most entries are those of a book, whose crate keeps them to itself.
-const MOST_AMOUNT: u32 = 1_000_000;
 
 // Whether a byte stands between words.
 fn is_blank(byte: u8) -> bool

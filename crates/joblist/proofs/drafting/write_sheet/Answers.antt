@@ -2,13 +2,13 @@ use Rattle.std.proofs.Common.{◌≡◌, ◌≤◌, length, take, vec_items, Ok,
 use Rattle.book.specs.Values.{open_of}
 use Rattle.filing.specs.Sheets.{sheet_of}
 use Rattle.filing.specs.Writes.{Written, LoadsBack}
-use Rattle.joblist.proofs.Writing.{sheet_short, is_written, front, front_held}
+use Rattle.joblist.proofs.Writing.{is_written, front, front_held}
 use Rattle.joblist.proofs.drafting.write_sheet.Goals as goal
 use Rattle.joblist.proofs.drafting.write_sheet.Goals.{After-truncate}
 
 pub unwrap-length-requires : goal.unwrap-length-requires
 unwrap-length-requires c =
-    let room : length (sheet_of (open_of c.args.book.now).book) ≤ length c.deref_mut.result.now = omega (arith, sheet_short c.args.book.now, c.deref_mut.ensures.len, c.in_ok-sheet.ensures.len) in
+    let room : length (sheet_of (open_of c.args.book.now).book) ≤ length c.deref_mut.result.now = omega (arith, c.write.ensures.short, c.deref_mut.ensures.len, c.in_ok-sheet.ensures.len) in
     is_written (open_of c.args.book.now).book c.deref_mut.result.now c.write.new.buffer c.write.result room c.write.ensures.written
 
 -- the sheet is written
