@@ -55,10 +55,22 @@ fn lines_of_every_kind(rt: HostRuntime) -> Result<(), Fail> {
     )
 }
 
+// A name that is a number or has other bytes than letters, amounts of 0 and with zeros in front, and four needs.
+#[test]
+fn words_of_every_kind(rt: HostRuntime) -> Result<(), Fail> {
+    let heap = rt.alloc();
+    drafts(
+        &rt,
+        heap,
+        b"job #1 007 4 \xe4\xff 3 2\njob 2 0\nset-up 3 0\nset-up 4 0\nboth \xe4\xff 0 1",
+        b"\x3d\0\0\0\x07\0\x01\0\x02\0\x03\0\x04\x00\x00\x00\x02\0\0\0\x01",
+    )
+}
+
 #[test]
 fn lines_by_themselves(rt: HostRuntime) -> Result<(), Fail> {
     let heap = rt.alloc();
-    let texts: [(&[u8], u8, usize); 13] = [
+    let texts: [(&[u8], u8, usize); 15] = [
         (b"jobs a 1", 51, 1),
         (b"\n\njob a", 51, 3),
         (b"job", 51, 1),
@@ -66,6 +78,8 @@ fn lines_by_themselves(rt: HostRuntime) -> Result<(), Fail> {
         (b"both a 1", 51, 1),
         (b"job a b", 52, 1),
         (b"job a -1", 52, 1),
+        (b"job a +1", 52, 1),
+        (b"job a 99999999999999999999999999999999999999", 52, 1),
         (b"job a 1000001", 52, 1),
         (b"both a 1 1000001", 52, 1),
         (b"both a x 1", 52, 1),
@@ -79,8 +93,10 @@ fn lines_by_themselves(rt: HostRuntime) -> Result<(), Fail> {
 #[test]
 fn names_that_are_needed(rt: HostRuntime) -> Result<(), Fail> {
     let heap = rt.alloc();
-    let texts: [(&[u8], u8, usize); 5] = [
+    let texts: [(&[u8], u8, usize); 7] = [
         (b"job a 1 b", 56, 1),
+        (b"job a 1 # no remark", 56, 1),
+        (b"job a 1\rjob a 2", 56, 1),
         (b"job a 1\njob b 1 a B", 56, 2),
         (b"job a 1 a", 57, 1),
         (b"job a 1 b b\nset-up b 2", 58, 1),
@@ -100,7 +116,9 @@ fn names_that_are_needed(rt: HostRuntime) -> Result<(), Fail> {
 fn texts_without_entries(rt: HostRuntime) -> Result<(), Fail> {
     let heap = rt.alloc();
     drafts(&rt, heap, b"", b"")?;
-    drafts(&rt, heap, b"\n# nothing to do\n  \n", b"")
+    drafts(&rt, heap, b"\n# nothing to do\n  \n", b"")?;
+    let longest = vec![in heap; b'\n'; 1_048_576]?;
+    drafts(&rt, heap, &longest, b"")
 }
 
 #[test]
@@ -133,10 +151,12 @@ fn the_longest_list(rt: HostRuntime) -> Result<(), Fail> {
     let heap = rt.alloc();
     let mut text = String::new(heap);
     for i in 0..4096u32 {
-        writeln!(text, "both {i} 1 1 {} {}", (i + 1) % 4096, (i + 2) % 4096)?;
+        let (next, after) = ((i + 1) % 4096, (i + 2) % 4096);
+        let (last, before) = ((i + 4095) % 4096, (i + 4094) % 4096);
+        writeln!(text, "both {i} 1 1 {next} {last} {after} {before}")?;
     }
     let sheet = joblist::to_sheet(heap, text.as_bytes())?;
-    assert!(rt; sheet.is_ok_and(|bytes| bytes.len() == 13 * 4096));
+    assert!(rt; sheet.is_ok_and(|bytes| bytes.len() == 69_632));
     writeln!(text, "job more 1")?;
     refuses(&rt, heap, &[(text.as_bytes(), 54, 4097)])
 }
