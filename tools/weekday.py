@@ -38,7 +38,7 @@ BOARDS = each("board {}", ["large press"], {
 })
 CARDS = each("card {}", [], {"cotton 300 g": 150, "cotton 600 g": 240, "black 400 g": 210, "felt 350 g": 190})
 ROLLS = each("roll {}", ["label press"], {
-    "white paper": 90, "clear film": 160, "white film": 140, "kraft paper": 120, "silver film": 220,
+    "white": 90, "clear film": 160, "white film": 140, "kraft": 120, "silver film": 220,
 })
 CLOTHS = each("cloth {}", ["banner printer"], {"banner": 120, "flag": 180, "canvas": 260, "mesh": 210})
 INKS = each("ink {}", ["small press"], {

@@ -93,8 +93,9 @@ fn the_largest_book(rt: HostRuntime) -> Result<(), Fail> {
     enter_most(&rt, &mut book);
     let mut short = vec![in heap; OLD; 69_631]?;
     too_long(&rt, &book, &mut short);
-    let mut sheet = vec![in heap; OLD; 69_632]?;
+    let mut sheet = vec![in heap; OLD; filing::MOST_SHEET_BYTES]?;
     assert_eq!(rt; filing::write(&book, &mut sheet), Ok(69_632));
+    assert_eq!(rt; sheet.len(), 69_632);
     let last = b"\x3f\0\x0f\x42\x40\0\x0f\x42\x3f\x0f\xfb\x0f\xfc\x0f\xfd\x0f\xfe";
     assert!(rt; sheet.ends_with(last));
     let mut other_table = vec![in heap; UNUSED; 36_864]?;

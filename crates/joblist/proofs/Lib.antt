@@ -8,7 +8,7 @@ pub mod Soundness
 -- The second pass: the entries are entered.
 pub mod EntryByEntry
 -- The third pass: what they need is entered.
-pub mod NeedLists
+pub mod NeedNumbers
 pub mod Numbering
 pub mod NameByName
 pub mod NeedsByEntry

@@ -18,7 +18,7 @@ use Rattle.joblist.specs.Faults.{number_of, need_fault}
 use Rattle.joblist.specs.JobLists.{first_below, name_fault, numbers}
 use Rattle.joblist.specs.Passes.{NeedsFit, numbers_of}
 use Rattle.joblist.proofs.Firsts.{first_none, first_next, first_stays}
-use Rattle.joblist.proofs.NeedLists.{needs_few_before}
+use Rattle.joblist.proofs.NeedNumbers.{needs_few_before}
 use Rattle.joblist.proofs.Numbering.{fresh, fine}
 
 -- the fault of name number k that entry number u needs

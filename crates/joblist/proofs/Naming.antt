@@ -16,7 +16,7 @@ use Rattle.joblist.specs.JobLists.{first_below, line_refusal, name_fault, needs_
 use Rattle.joblist.specs.Names.{name_of, WellNamed}
 use Rattle.joblist.proofs.Firsts.{first_each}
 use Rattle.joblist.proofs.Soundness.{no_fault, line_passed}
-use Rattle.joblist.proofs.NeedLists.{needs_told}
+use Rattle.joblist.proofs.NeedNumbers.{needs_told}
 use Rattle.joblist.proofs.Numbering.{named, fine}
 use Rattle.joblist.proofs.NameByName.{fault_at}
 
@@ -26,9 +26,10 @@ not_refused : (b : Bool) (x : JobRefusal) (r : Result Book JobRefusal) (c : Book
 not_refused true x r c never = let no : ◌≡◌ {A = ℕ} 0 1 = cc in absurd (omega arith)
 not_refused false x r c is = is
 
-no_refusal : (o : Option JobRefusal) (r : Result Book JobRefusal) (c : Book) → unless o r ≡ Ok c → (o ≡ None) × (r ≡ Ok c)
-no_refusal None r c is = (refl, is)
-no_refusal (Some x) r c never = let no : ◌≡◌ {A = ℕ} 0 1 = cc in absurd (omega arith)
+-- where a book is answered, nothing refused it
+not_unless : (o : Option JobRefusal) (r : Result Book JobRefusal) (c : Book) → unless o r ≡ Ok c → (o ≡ None) × (r ≡ Ok c)
+not_unless None r c is = (refl, is)
+not_unless (Some x) r c never = let no : ◌≡◌ {A = ℕ} 0 1 = cc in absurd (omega arith)
 
 same_book : (b c : Book) → ◌≡◌ {A = Result Book JobRefusal} (Ok b) (Ok c) → b ≡ c
 same_book b c is = cc
@@ -92,7 +93,7 @@ pub well_named : (text : List ℕ) (b : Book) → book_of_text text ≡ Ok b →
 well_named text b told =
     let ls = lines_of text in
     let es = map entry_of ls in
-    let lines = no_refusal (first_below (length ls) (line_refusal ls)) (book_of_entries es) b (not_refused (nat_lt 1048576 (length text)) TooLong (book_of_lines ls) b told) in
-    let needs = no_refusal (first_below (length es) (needs_refusal es)) (Ok (book_of es)) b lines.1 in
+    let lines = not_unless (first_below (length ls) (line_refusal ls)) (book_of_entries es) b (not_refused (nat_lt 1048576 (length text)) TooLong (book_of_lines ls) b told) in
+    let needs = not_unless (first_below (length es) (needs_refusal es)) (Ok (book_of es)) b lines.1 in
     let is : book_of es ≡ b = same_book (book_of es) b needs.1 in
     subst (WellNamed es) is (well_told ls lines.0 needs.0)

@@ -12,7 +12,7 @@ use Rattle.joblist.specs.Entries.{Entry, no_entry}
 use Rattle.joblist.specs.JobLists.{first_below, at_line, needs_refusal}
 use Rattle.joblist.specs.Passes.{NeedsEntered, numbers_of, with_entries, with_needs_of}
 use Rattle.joblist.proofs.Firsts.{first_none, first_next, first_stays}
-use Rattle.joblist.proofs.NeedLists.{needs_next}
+use Rattle.joblist.proofs.NeedNumbers.{needs_next}
 
 -- what the first n entries need is entered
 pub record NeedsSoFar (es : List Entry) (n : ℕ) (s t : Open) : Type 0 where

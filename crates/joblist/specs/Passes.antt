@@ -1,6 +1,7 @@
 -- What the inner functions of a job list agree on.
 use Rattle.std.specs.Prelude.{◌≡◌, ℕ, ◌<◌, ◌≤◌, cond, nat_lt, Some, None, Ok, Err, Option, Result, List, [], map, length, take, vec_items, Vec, slice_index_or}
 use Rattle.std.specs.declared.alloc.Global.{Global}
+use Rattle.std.specs.Str.Parse.{digits_value}
 use Rattle.book.specs.Books.{Book}
 use Rattle.book.specs.Calls.{Open}
 use Rattle.filing.specs.Books.{needs_from}
@@ -10,7 +11,6 @@ use Rattle.filing.specs.Writes.{LoadsBack}
 use Rattle.joblist.specs.declared.entry.Entry.{Entry as TheEntry}
 use Rattle.joblist.specs.declared.refusal.Fault.{Fault}
 use Rattle.joblist.specs.declared.refusal.JobRefusal.{JobRefusal}
-use Rattle.std.specs.Str.Parse.{digits_value}
 use Rattle.joblist.specs.Amounts.{is_amount}
 use Rattle.joblist.specs.Lines.{Line}
 use Rattle.joblist.specs.Entries.{Entry, no_entry, entry_of}
