@@ -1,0 +1,12 @@
+// The page tile: a network of pixels, each joined to its neighbours, over one borrowed table.
+#![tactic(auto)]
+
+mod answering;
+mod arc;
+mod pixel;
+mod refusal;
+mod tile;
+
+pub use pixel::{Pair, Pixel};
+pub use refusal::{LayRefusal, MOST_SIDE};
+pub use tile::Tile;

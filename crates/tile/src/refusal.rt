@@ -1,0 +1,93 @@
+// Why a tile refuses a lay, and the number of each refusal.
+ghost use Rattle.std.specs.Prelude.{◌≡◌, ◌+◌, ◌*◌, ◌/◌, ◌<◌, ◌≤◌, OnOk, length};
+ghost use Rattle.std.specs.Result.{result_err};
+ghost use Rattle.tile.specs.Refusals.{question, lay_refusal, off_tile, sized};
+ghost use Rattle.tile.specs.Tiles.{penalty};
+ghost use Rattle.tile.specs.Accepted.{Lays};
+
+use super::arc::{is_joined, Side};
+
+// The most pixels of a side.
+pub const MOST_SIDE: usize = 64;
+
+// The questions put to a lay, in this order.
+#[derive(Clone, Copy, PartialEq, Eq, Debug)]
+pub enum LayRefusal {
+    // width or height is not from 1 to 64
+    WrongSize,
+    // there are not exactly four bytes a pixel
+    WrongLength,
+    // the table has fewer records than there are pixels
+    ShortTable,
+    // there is a penalty to a neighbour that is not on the tile
+    PenaltyOffTile,
+}
+
+impl LayRefusal {
+    // Puts the questions to a lay over a table of so many records.
+    pub(crate) fn check(
+        width: usize,
+        height: usize,
+        costs: &[u8],
+        records: usize,
+    ) -> Result<(), LayRefusal>
+        ensures refusal { result_err result ≡ lay_refusal width height costs.now records }
+        ensures accepted { OnOk result (Lays width height costs.now records) }
+    {
+        if !is_sized(width) || !is_sized(height) {
+            return Err(LayRefusal::WrongSize);
+        }
+        let pixels = width * height;
+        if costs.len() != 4 * pixels {
+            Err(LayRefusal::WrongLength)
+        } else if records < pixels {
+            Err(LayRefusal::ShortTable)
+        } else if is_off_tile(width, pixels, costs) {
+            Err(LayRefusal::PenaltyOffTile)
+        } else {
+            Ok(())
+        }
+    }
+
+    // The number of the question whose answer is no; a rule of the project has a method answer it.
+    pub fn question(self) -> u8
+        ensures { result ≡ question self }
+    {
+        // each case has a number of its own, shared with no other enum; no discriminants, since an edit that gives two cases one must build
+        match self {
+            LayRefusal::WrongSize => 21,
+            LayRefusal::WrongLength => 22,
+            LayRefusal::ShortTable => 23,
+            LayRefusal::PenaltyOffTile => 24,
+        }
+    }
+}
+
+// Whether a side may have so many pixels.
+fn is_sized(pixels: usize) -> bool
+    ensures { result ≡ sized pixels }
+{
+    (1..=MOST_SIDE).contains(&pixels)
+}
+
+// The penalty between the pixels of a pair.
+fn penalty(costs: &[u8], pair: usize) -> u8
+    requires { 4 * (pair / 2) + 3 < length costs.now }
+    ensures { result ≡ penalty costs.now pair }
+{
+    let first = 4 * (pair / 2);
+    match Side::of(pair) {
+        Side::Right => costs[first + 2],
+        Side::Below => costs[first + 3],
+    }
+}
+
+// Whether there is a penalty between a pixel and one that is not on the tile.
+fn is_off_tile(width: usize, pixels: usize, costs: &[u8]) -> bool
+    requires narrow { width ≤ 64 }
+    requires some { 0 < pixels → 0 < width }
+    requires long { length costs.now ≡ 4 * pixels }
+    ensures { result ≡ off_tile width pixels costs.now }
+{
+    (0..2 * pixels).any(|pair| !is_joined(width, pixels, pair) && penalty(costs, pair) > 0)
+}

@@ -1,0 +1,17 @@
+// A page tile: pixels in rows over a borrowed table, of which a part may be laid.
+ghost use Rattle.std.specs.Prelude.{◌*◌, ◌≤◌, length, take};
+ghost use Rattle.tile.specs.Tables.{AllSmall};
+
+use super::pixel::Pixel;
+
+// No derived equality: a `&mut` to a slice has none.
+#[derive(Debug, Drop)]
+pub struct Tile<'a> {
+    pub(crate) table: &'a mut [Pixel],
+    pub(crate) width: usize,
+    pub(crate) height: usize,
+    ghost narrow: { width ≤ 64 },
+    ghost low: { height ≤ 64 },
+    ghost room: { width * height ≤ length table.now },
+    ghost small: { AllSmall (take (width * height) table.now) },
+}
