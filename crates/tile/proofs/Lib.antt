@@ -1,2 +1,4 @@
 pub mod Changes
 pub mod Nth
+pub mod Energies
+pub mod Layings

@@ -16,10 +16,10 @@ use Rattle.tile.specs.Grids.{owner, side_of, way_of, step, neighbour, goes_on, o
 use Rattle.tile.specs.Tables.{AllSmall, pixel_at, of_pixels}
 
 -- the arcs of pair p are 2p and 2p + 1
-pair_out : (p : ℕ) → (2 * p) / 2 ≡ p
+pub pair_out : (p : ℕ) → (2 * p) / 2 ≡ p
 pair_out p = omega arith
 
-pair_back : (p : ℕ) → (2 * p + 1) / 2 ≡ p
+pub pair_back : (p : ℕ) → (2 * p + 1) / 2 ≡ p
 pair_back p = omega arith
 
 out_way : (p : ℕ) → way_of (2 * p) ≡ Out
@@ -28,10 +28,10 @@ out_way p = rw (eq-eqb ((2 * p) % 2) 0 (omega arith))
 back_way : (p : ℕ) → way_of (2 * p + 1) ≡ Back
 back_way p = rw (ne_eqb ((2 * p + 1) % 2) 0 (omega arith))
 
-out_there : (w n p : ℕ) → joined w n p ≡ true → (grid w n).ends (2 * p) ≡ Some (joins w p Out)
+pub out_there : (w n p : ℕ) → joined w n p ≡ true → (grid w n).ends (2 * p) ≡ Some (joins w p Out)
 out_there w n p h = rw (pair_out p, out_way p, h)
 
-back_there : (w n p : ℕ) → joined w n p ≡ true → (grid w n).ends (2 * p + 1) ≡ Some (joins w p Back)
+pub back_there : (w n p : ℕ) → joined w n p ≡ true → (grid w n).ends (2 * p + 1) ≡ Some (joins w p Back)
 back_there w n p h = rw (pair_back p, back_way p, h)
 
 -- what holds of both arcs of each pair on the tile holds of each arc

@@ -7,5 +7,6 @@ pub mod Calls
 pub mod Values
 -- What inner functions agree on, and that the laws hold.
 pub mod Pixels
+pub mod Layings
 pub mod Accepted
 pub mod Laws

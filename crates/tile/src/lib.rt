@@ -3,6 +3,7 @@
 
 mod answering;
 mod arc;
+mod laying;
 mod pixel;
 mod refusal;
 mod tile;

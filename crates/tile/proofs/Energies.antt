@@ -1,0 +1,56 @@
+-- Every selection of a tile's network costs its energy.
+use Rattle.std.proofs.Common.{◌≡◌, ℕ, zero, suc, ◌+◌, ◌*◌, ◌/◌, ◌%◌, ◌<◌, ◌≤◌, Bool, true, false, cond, not, ◌&&◌, List, refl, ap, ◌∙◌, sym, ⊎_elim, arith}
+use Rattle.std.proofs.lemmas.Bool.{cases_Bool, cases_eq, le-ltb}
+use Rattle.std.proofs.lemmas.Bool.Decides.{nat_tests}
+use Rattle.network.specs.Nets.{Net}
+use Rattle.network.specs.Cuts.{Selection, sum_below, node_cost, leaves, arc_cost, cost}
+use Rattle.network.proofs.Sums.{sum_same, sum_zero}
+use Rattle.tile.specs.Grids.{owner, neighbour, joined, grid}
+use Rattle.tile.specs.Laws.{pair_out, pair_back, out_there, back_there}
+use Rattle.tile.specs.Tiles.{line, tone, penalty, tile_network, differ, energy}
+
+-- a sum over twice as many numbers takes them two by two
+sum_pairs : (m : ℕ) (f : ℕ → ℕ) → sum_below (2 * m) f ≡ sum_below m (λ p. f (2 * p) + f (2 * p + 1))
+unfolding sum_below
+sum_pairs zero f = refl
+sum_pairs (suc m) f =
+    let two : 2 * suc m ≡ suc (suc (2 * m)) = omega arith in
+    let next : suc (2 * m) ≡ 2 * m + 1 = omega arith in
+    rw (two, next) (omega (arith, sum_pairs m f))
+
+-- numbers past k add nothing
+sum_past : (n k : ℕ) (f : ℕ → ℕ) → k ≤ n → ((u : ℕ) → k ≤ u → f u ≡ 0) → sum_below n f ≡ sum_below k f
+unfolding sum_below
+sum_past zero k f less none = let same : k ≡ 0 = omega arith in rw same refl
+sum_past (suc n) k f less none = ⊎_elim
+    (λ (same : k ≡ suc n). rw same refl)
+    (λ (not : k ≡ suc n → ⊥). omega (arith, sum_past n k f (omega (arith, not)) none, none n (omega (arith, not))))
+    (cases_eq k (suc n))
+
+-- what two arcs pay that lead to and fro
+to_and_fro : (x y : Bool) (k : ℕ) → cond (x && not y) k 0 + cond (y && not x) k 0 ≡ cond (differ x y) k 0
+to_and_fro true true k = refl
+to_and_fro true false k = omega arith
+to_and_fro false true k = omega arith
+to_and_fro false false k = refl
+
+-- the two arcs of a pair pay its penalty where one pixel is line and the other tone
+pair_cost : (w h : ℕ) (bs : List ℕ) (X : Selection) (p : ℕ) → arc_cost (tile_network w h bs) X (2 * p) + arc_cost (tile_network w h bs) X (2 * p + 1) ≡ cond (joined w (w * h) p && differ (X (owner p)) (X (neighbour w p))) (penalty bs p) 0
+pair_cost w h bs X p = ⊎_elim
+    (λ (there : joined w (w * h) p ≡ true). rw (out_there w (w * h) p there, back_there w (w * h) p there, pair_out p, pair_back p, there) (to_and_fro (X (owner p)) (X (neighbour w p)) (penalty bs p)))
+    (λ (none : joined w (w * h) p ≡ false). rw (pair_out p, pair_back p, none) refl)
+    (cases_Bool (joined w (w * h) p))
+
+-- there are no pairs past the last pixel's
+no_pair : (w n p : ℕ) → 2 * n ≤ p → joined w n p ≡ false
+no_pair w n p past = let far : n ≤ neighbour w p = omega arith in rw (le-ltb (neighbour w p) n far) refl
+
+-- all codes together pay the penalties of neighbours that differ
+arcs_cost : (w h : ℕ) (bs : List ℕ) (X : Selection) → w * h ≤ 4096 → sum_below 32768 (arc_cost (tile_network w h bs) X) ≡ sum_below (2 * (w * h)) (λ p. cond (joined w (w * h) p && differ (X (owner p)) (X (neighbour w p))) (penalty bs p) 0)
+arcs_cost w h bs X few =
+    sum_pairs 16384 (arc_cost (tile_network w h bs) X)
+    ∙ sum_same 16384 _ _ (λ p _. pair_cost w h bs X p)
+    ∙ sum_past 16384 (2 * (w * h)) _ (omega arith) (λ p past. rw (no_pair w (w * h) p past) refl)
+
+pub energy_is_cost : (w h : ℕ) (bs : List ℕ) (X : Selection) → w * h ≤ 4096 → cost (tile_network w h bs) X ≡ energy w h bs X
+energy_is_cost w h bs X few = ap (λ k. sum_below (w * h) (node_cost (tile_network w h bs) X) + k) (arcs_cost w h bs X few)

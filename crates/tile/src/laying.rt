@@ -1,0 +1,64 @@
+// The calls that make, lay and end a tile.
+ghost use Rattle.std.specs.Prelude.{◌≡◌, ◌+◌, ◌*◌, ◌<◌, length};
+ghost use Rattle.tile.specs.Pixels.{Small};
+ghost use Rattle.tile.specs.Tables.{AllSmall};
+ghost use Rattle.tile.specs.Calls.{new_tile, Laid};
+ghost use Rattle.tile.specs.Values.{tile_of};
+ghost use Rattle.tile.specs.Layings.{laid_at, laid_pixels};
+
+use super::pixel::Pixel;
+use super::refusal::LayRefusal;
+use super::tile::Tile;
+
+impl<'a> Tile<'a> {
+    // A tile without pixels over the table, which stays as it is.
+    pub fn new(table: &'a mut [Pixel]) -> Tile<'a>
+        ensures { tile_of result ≡ new_tile table.entry }
+    {
+        Tile {
+            table,
+            width: 0,
+            height: 0,
+        }
+    }
+
+    // Lays so many pixels in rows, in place of those that were laid before: four bytes a pixel, its cost as line, its cost as tone, the
+    // penalty to its neighbour at the right, and the penalty to the one below.
+    pub fn lay(&mut self, width: usize, height: usize, costs: &[u8]) -> Result<(), LayRefusal>
+        ensures { Laid (tile_of self.old) width height costs.now result (tile_of self.new) }
+    {
+        LayRefusal::check(width, height, costs, self.table.len())?;
+        write_pixels(&mut self.table[..width * height], costs);
+        self.width = width;
+        self.height = height;
+        Ok(())
+    }
+
+    // Ends the tile and gives its table back.
+    pub fn release(self) -> &'a mut [Pixel]
+        ensures { result ≡ (tile_of self.entry).table }
+    {
+        self.table
+    }
+}
+
+// Writes what four bytes a pixel tell.
+fn write_pixels(pixels: &mut [Pixel], costs: &[u8])
+    requires { length costs.now ≡ 4 * length pixels.old }
+    ensures written { pixels.new ≡ laid_pixels costs.now (length pixels.old) }
+    ensures small { AllSmall pixels.new }
+{
+    for (number, pixel) in pixels.iter_mut().enumerate() {
+        *pixel = told(costs, number);
+    }
+}
+
+// What the bytes tell of a pixel.
+fn told(costs: &[u8], number: usize) -> Pixel
+    requires { 4 * number + 3 < length costs.now }
+    ensures is { result ≡ laid_at costs.now number }
+    ensures small { Small result }
+{
+    let first = 4 * number;
+    Pixel::laid(costs[first], costs[first + 1], costs[first + 2], costs[first + 3])
+}
