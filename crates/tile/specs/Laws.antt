@@ -86,12 +86,12 @@ at_places_of w n v k a is =
     ⊎_elim
     (λ h. inl (h.0, h.2, h.1))
     (λ h. inr (⊎_elim
-      (λ g. inl (g.0, g.2, omega (arith, g.1, h.2)))
-      (λ g. inr (⊎_elim
-        (λ f. inl (f.0, f.2, omega (arith, f.1, g.2, h.2)))
-        (λ f. inr (let t = at_only (nat_le w v) _ a f.0 f.1 in (t.0, t.2, omega (arith, t.1, f.2, g.2, h.2))))
-        (at_first (below_at w n v) _ a g.0 _ g.1)))
-      (at_first (goes_on w v) _ a h.0 _ h.1)))
+    (λ g. inl (g.0, g.2, omega (arith, g.1, h.2)))
+    (λ g. inr (⊎_elim
+    (λ f. inl (f.0, f.2, omega (arith, f.1, g.2, h.2)))
+    (λ f. inr (let t = at_only (nat_le w v) _ a f.0 f.1 in (t.0, t.2, omega (arith, t.1, f.2, g.2, h.2))))
+    (at_first (below_at w n v) _ a g.0 _ g.1)))
+    (at_first (goes_on w v) _ a h.0 _ h.1)))
     (at_first (right_at w n v) _ a k _ is)
 
 -- what holds of the pairs at each side of each pixel holds of each pair
@@ -115,10 +115,10 @@ right_neighbour w v = rw (right_side v) (omega arith)
 below_neighbour : (w v : ℕ) → neighbour w (2 * v + 1) ≡ v + w
 below_neighbour w v = rw (below_side v) (omega arith)
 
-right_joined : (w n v : ℕ) → joined w n (2 * v) ≡ (nat_lt (v + 1) n && goes_on w (v + 1))
+pub right_joined : (w n v : ℕ) → joined w n (2 * v) ≡ (nat_lt (v + 1) n && goes_on w (v + 1))
 right_joined w n v = rw (right_side v, pair_out v) refl
 
-below_joined : (w n v : ℕ) → joined w n (2 * v + 1) ≡ (nat_lt (v + w) n && true)
+pub below_joined : (w n v : ℕ) → joined w n (2 * v + 1) ≡ (nat_lt (v + w) n && true)
 below_joined w n v = rw (below_side v, pair_back v) refl
 
 -- pixel v is joined to the one at its left, and to the one above
@@ -168,8 +168,8 @@ out_stands w n = each_pair (λ p. joined w n p ≡ true → Stands (arcs_of w n 
 back_stands : (w n p : ℕ) → joined w n p ≡ true → Stands (arcs_of w n (neighbour w p)) (2 * p + 1)
 back_stands w n = each_pair (λ p. joined w n p ≡ true → Stands (arcs_of w n (neighbour w p)) (2 * p + 1))
     (λ v there.
-        let on = and_parts (nat_lt (v + 1) n) (goes_on w (v + 1)) (sym (right_joined w n v) ∙ there) in
-        moved_to w n (v + 1) (neighbour w (2 * v)) (4 * (v + 1 - 1) + 1) (2 * (2 * v) + 1) (sym (right_neighbour w v)) (omega arith) (left_stands w n (v + 1) on.1))
+    let on = and_parts (nat_lt (v + 1) n) (goes_on w (v + 1)) (sym (right_joined w n v) ∙ there) in
+    moved_to w n (v + 1) (neighbour w (2 * v)) (4 * (v + 1 - 1) + 1) (2 * (2 * v) + 1) (sym (right_neighbour w v)) (omega arith) (left_stands w n (v + 1) on.1))
     (λ v there. moved_to w n (v + w) (neighbour w (2 * v + 1)) (4 * (v + w - w) + 3) (2 * (2 * v + 1) + 1) (sym (below_neighbour w v)) (omega arith) (up_stands w n (v + w) (omega arith)))
 
 -- both pixels of a pair are on the tile
@@ -192,17 +192,19 @@ graph_lawful w n few = record {
   where
     arc_out : (v p a : ℕ) → joined w n p ≡ true → owner p ≡ v → a ≡ 2 * p → (e : Ends) × ((grid w n).ends a ≡ Some e) × (e.tail ≡ v)
     arc_out v p a there own is = (joins w p Out, rw is (out_there w n p there), own)
+
     arc_back : (v p a : ℕ) → joined w n p ≡ true → neighbour w p ≡ v → a ≡ 2 * p + 1 → (e : Ends) × ((grid w n).ends a ≡ Some e) × (e.tail ≡ v)
     arc_back v p a there own is = (joins w p Back, rw is (back_there w n p there), own)
+
     own : (v k a : ℕ) → v < n → slice_get (arcs_of w n v) k ≡ Some a → (e : Ends) × ((grid w n).ends a ≡ Some e) × (e.tail ≡ v)
     own v k a there is =
         ⊎_elim
         (λ h. arc_out v (2 * v) a h.0 (pair_out v) (omega (arith, h.1)))
         (⊎_elim
-          (λ h. let some : 0 < v = grind (arith, nat_tests, h.0) in arc_back v (2 * (v - 1)) a (left_joined w n v there h.0) (right_neighbour w (v - 1) ∙ omega arith) (omega (arith, h.1)))
-          (⊎_elim
-            (λ h. arc_out v (2 * v + 1) a h.0 (pair_back v) (omega (arith, h.1)))
-            (λ h. let above : w ≤ v = leb-true w v h.0 in arc_back v (2 * (v - w) + 1) a (up_joined w n v there above) (below_neighbour w (v - w) ∙ omega arith) (omega (arith, h.1)))))
+        (λ h. let some : 0 < v = grind (arith, nat_tests, h.0) in arc_back v (2 * (v - 1)) a (left_joined w n v there h.0) (right_neighbour w (v - 1) ∙ omega arith) (omega (arith, h.1)))
+        (⊎_elim
+        (λ h. arc_out v (2 * v + 1) a h.0 (pair_back v) (omega (arith, h.1)))
+        (λ h. let above : w ≤ v = leb-true w v h.0 in arc_back v (2 * (v - w) + 1) a (up_joined w n v there above) (below_neighbour w (v - w) ∙ omega arith) (omega (arith, h.1)))))
         (at_places_of w n v k a is)
 
 -- the residuals of a pair's two arcs

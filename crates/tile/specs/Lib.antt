@@ -5,6 +5,7 @@ pub mod Refusals
 pub mod Tables
 pub mod Calls
 pub mod Values
+pub mod Theorems
 -- What inner functions agree on, and that the laws hold.
 pub mod Pixels
 pub mod Layings

@@ -60,5 +60,10 @@ fn told(costs: &[u8], number: usize) -> Pixel
     ensures small { Small result }
 {
     let first = 4 * number;
-    Pixel::laid(costs[first], costs[first + 1], costs[first + 2], costs[first + 3])
+    Pixel::laid(
+        costs[first],
+        costs[first + 1],
+        costs[first + 2],
+        costs[first + 3],
+    )
 }

@@ -3,9 +3,11 @@
 
 mod answering;
 mod arc;
+mod asking;
 mod laying;
 mod pixel;
 mod refusal;
+mod theorems;
 mod tile;
 
 pub use pixel::{Pair, Pixel};

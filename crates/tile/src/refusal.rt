@@ -5,7 +5,7 @@ ghost use Rattle.tile.specs.Refusals.{question, lay_refusal, off_tile, sized};
 ghost use Rattle.tile.specs.Tiles.{penalty};
 ghost use Rattle.tile.specs.Accepted.{Lays};
 
-use super::arc::{is_joined, Side};
+use super::arc::{Side, is_joined};
 
 // The most pixels of a side.
 pub const MOST_SIDE: usize = 64;

@@ -17,8 +17,8 @@ loop-arc-preserved c =
     let k = c.loop-arc.arc-index in
     let there : k < length c.args.arcs = search rules in
     c.loop-arc.invariant ∙ (elim c.if-is_some.branch [
-      then-is_some+else-before-eq0 w ↦ rw w.before-is (from_later c.args.arcs k c.loop-arc.before there (sym c.is_some.ensures ∙ w.if-is_some.true) (omega (arith, w.if-before-eq0.false)))
-    | else-is_some w ↦ rw w.before-is (from_none c.args.arcs k c.loop-arc.before there (sym c.is_some.ensures ∙ w.if-is_some.false))
+      | then-is_some+else-before-eq0 w ↦ rw w.before-is (from_later c.args.arcs k c.loop-arc.before there (sym c.is_some.ensures ∙ w.if-is_some.true) (omega (arith, w.if-before-eq0.false)))
+      | else-is_some w ↦ rw w.before-is (from_none c.args.arcs k c.loop-arc.before there (sym c.is_some.ensures ∙ w.if-is_some.false))
     ])
 
 pub returns : goal.returns

@@ -13,8 +13,7 @@ loop-number-preserved c =
     let now = c.loop-number.pixels in
     let v = c.loop-number.number in
     let more = map-range_with_len_more (laid_at c.args.costs.now) 0 v v (omega arith) in
-    let (written, long, small) = c.loop-number.invariant in
-    (
+    let (written, long, small) = c.loop-number.invariant in (
       take_more_set now v c.told.result (omega (arith, long, c.loop-number-test.true)) ∙ rw (written, c.told.ensures.is) (sym more),
       length-set now v c.told.result ∙ long,
       λ u there. ⊎_elim

@@ -7,12 +7,14 @@ pub returns : goal.returns
 returns c =
     let table = c.args.self.now.table.now in
     let ok : Lays c.args.width c.args.height c.args.costs.now (length table) = search rules in
-    let laid = laid_table c.args.width c.args.height c.args.costs.now table c.write_pixels.new.pixels ok c.write_pixels.ensures.written c.write_pixels.ensures.small in
-    (search rules, record {
-      width = refl;
-      height = refl;
-      network = laid.network;
-      lawful = laid.lawful;
-      energy = laid.energy;
-      spared = record { same_table = refl; length = laid.length; untouched = laid.untouched };
-    })
+    let laid = laid_table c.args.width c.args.height c.args.costs.now table c.write_pixels.new.pixels ok c.write_pixels.ensures.written c.write_pixels.ensures.small in (
+      search rules,
+      record {
+        width = refl;
+        height = refl;
+        network = laid.network;
+        lawful = laid.lawful;
+        energy = laid.energy;
+        spared = record { same_table = refl; length = laid.length; untouched = laid.untouched };
+      },
+    )

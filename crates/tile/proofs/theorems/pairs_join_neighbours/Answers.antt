@@ -1,0 +1,5 @@
+use Rattle.tile.proofs.Neighbours.{joins_neighbours}
+use Rattle.tile.proofs.theorems.pairs_join_neighbours.Goals as goal
+
+pub returns : goal.returns
+returns c = joins_neighbours
