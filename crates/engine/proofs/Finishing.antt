@@ -1,8 +1,8 @@
 -- Runs that are repeated until one finishes: each that pauses has gained something, so they end.
-use Rattle.std.proofs.Common.{◌≡◌, ℕ, ◌+◌, ◌^◌, ◌<◌, ◌≤◌, List, [], ◌∷◌, length, None, Ok, Err, Result, refl, arith}
+use Rattle.std.proofs.Common.{◌≡◌, ℕ, ◌+◌, ◌^◌, ◌<◌, ◌≤◌, List, [], ◌∷◌, length, None, Ok, Err, Result, refl, ap, arith}
 use Rattle.std.specs.Result.{IsOk}
 use Rattle.std.proofs.lemmas.Bool.Decides.{nat_tests}
-use Rattle.network.specs.Nets.{Net, Lawful}
+use Rattle.network.specs.Nets.{Graph, Net, Lawful}
 use Rattle.network.specs.Cuts.{cost, CheapestCost}
 use Rattle.network.specs.Paths.{Path, Successive, gain, trail_words}
 use Rattle.network.proofs.Carrying.{some_amount}
@@ -13,11 +13,15 @@ use Rattle.search.specs.Runs.{Lent, MarksOf, refused, Run, Runs}
 use Rattle.search.specs.Runs.Runs.{none, then}
 use Rattle.search.specs.Trails.{everything}
 use Rattle.search.proofs.Logs.{dear}
-use Rattle.search.proofs.Promises.{promised}
+use Rattle.search.proofs.Promises.{runs_lower, promised}
 
 -- runs led from v to w, and gained g
 abbrev pub Gained : Net → Net → ℕ → Type 0
 Gained v w g = (k : ℕ) × Runs v w g k
+
+-- which has as many nodes
+pub same_nodes : (v w : Net) (g : ℕ) → Gained v w g → w.graph.nodes ≡ v.graph.nodes
+same_nodes v w g (k, runs) = ap (λ (h : Graph). h.nodes) (runs_lower v w g k runs).lowered.graph
 
 -- a run that is lent enough is not refused
 not_refused : (n : ℕ) (l : Lent) → n ≤ length l.work → n ≤ length l.marks → refused n l ≡ None

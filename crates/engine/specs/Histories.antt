@@ -1,7 +1,8 @@
--- Lists of calls on one book, refused ones among them: while it is open, and once it is sealed.
+-- Lists of calls on one book, refused ones among them: while it is open, and once it is sealed. And lists of calls on one tile.
 use Rattle.std.specs.Prelude.{◌≡◌, ℕ, ◌+◌, List, Ok, Err, Result}
 use Rattle.std.specs.Borrow.{MutBor}
 use Rattle.network.specs.Nets.{Net}
+use Rattle.network.specs.Cuts.{Selection, cost}
 use Rattle.search.specs.declared.refusal.RunRefusal.{RunRefusal}
 use Rattle.search.specs.declared.report.Report.{Report}
 use Rattle.search.specs.Runs.{Lent, Run, gained, counted, Promised}
@@ -11,6 +12,9 @@ use Rattle.book.specs.declared.record.Record.{Record}
 use Rattle.book.specs.Books.{Book, empty, with_entry, with_need, network_of}
 use Rattle.book.specs.Calls.{Open, Shut, new_book, Entered, Needed, Sealed}
 use Rattle.book.specs.Plans.{BestPlans}
+use Rattle.tile.specs.declared.refusal.LayRefusal.{LayRefusal}
+use Rattle.tile.specs.Tiles.{tile_network, energy}
+use Rattle.tile.specs.Calls.{State, Laid}
 use Rattle.sheet.specs.declared.Counts.{Counts}
 use Rattle.sheet.specs.Format.{Entry}
 use Rattle.sheet.specs.Answers.{SheetOf}
@@ -49,3 +53,20 @@ pub data Handled (b : Book) : Net → ℕ → ℕ → Type 0 where
 -- calls gave, and its cheapest selections are the best plans
 abbrev pub BookPromise : Net → Result Report RunRefusal → Net → Lent → Type 0
 BookPromise w r x after = (b : Book) (g k : ℕ) → Handled b w g k → Promised (network_of b) (g + gained r) (k + counted r) r x after × BestPlans b
+
+-- calls on one tile: an accepted lay of the costs bs hands over, and since then came refused lays and runs, each run with whatever it was
+-- lent, which led to the value x; g is all that the runs gained, and k how many paths they counted
+pub data HandledTile (w h : ℕ) (bs : List ℕ) : Net → ℕ → ℕ → Type 0 where
+  -- whatever earlier calls left of the tile, an accepted lay hands over anew
+  lay : {s t : State} → Laid s w h bs (Ok tt) t → HandledTile w h bs t.net 0 0
+  refused : {s t : State} {g k : ℕ} → HandledTile w h bs s.net g k → (width height : ℕ) (costs : List ℕ) (e : LayRefusal) → Laid s width height costs (Err e) t → HandledTile w h bs t.net g k
+  run : {x y : Net} {g k : ℕ} → HandledTile w h bs x g k → (before : Lent) (r : Result Report RunRefusal) (after : Lent) → Run x before r y after → HandledTile w h bs y (g + gained r) (k + counted r)
+
+-- for every list of calls that led to the value before this run: what runs promise holds of the network of what was laid last, and each
+-- selection costs its energy less all gained since
+pub record TilePromised (w h : ℕ) (bs : List ℕ) (g k : ℕ) (r : Result Report RunRefusal) (y : Net) (after : Lent) : Type 0 where
+  pub promised : Promised (tile_network w h bs) g k r y after
+  pub energy : (X : Selection) → cost y X + g ≡ energy w h bs X
+
+abbrev pub TilePromise : Net → Result Report RunRefusal → Net → Lent → Type 0
+TilePromise x r y after = (w h : ℕ) (bs : List ℕ) (g k : ℕ) → HandledTile w h bs x g k → TilePromised w h bs (g + gained r) (k + counted r) r y after

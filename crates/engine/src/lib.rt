@@ -1,16 +1,20 @@
-// The calls that a user makes: runs of a book, the answer to a sheet, and the text that tells it.
+// The calls that a user makes: runs of a book and of a tile, the cheapest selections, the answer to a sheet, and the text that tells it.
 #![tactic(auto)]
 
 mod answer;
+mod books;
+mod cutting;
 mod page;
 mod planning;
 mod refusal;
 mod running;
 mod telling;
+mod tiles;
 
 pub use answer::Plan;
+pub use cutting::{Cut, cheapest_cut};
 pub use page::Listing;
 pub use planning::{MOST_BYTES, plan};
 pub use refusal::PlanRefusal;
-pub use running::run;
+pub use running::Runs;
 pub use telling::listing;

@@ -15,10 +15,10 @@ use Rattle.search.specs.Runs.{Lent, MarksOf, Run, Runs, gained, counted, Conclud
 use Rattle.search.specs.Runs.Runs.{none, then}
 
 -- what is gained is what every selection costs less, and paths are never more than that
-record Lower (v : Net) (g k : ℕ) (w : Net) : Type 0 where
-  begun : Lawful v
-  lowered : Lowered v g w
-  few : k ≤ g
+pub record Lower (v : Net) (g k : ℕ) (w : Net) : Type 0 where
+  pub begun : Lawful v
+  pub lowered : Lowered v g w
+  pub few : k ≤ g
 
 lower_none : (v : Net) → Lawful v → Lower v 0 0 v
 lower_none v l = record { begun = l; lowered = record { graph = refl; lawful = l; costs = λ X. omega arith }; few = omega arith }
@@ -46,7 +46,7 @@ lower_on v g k w h j x first second = record {
   few = omega (arith, first.few, second.few);
 }
 
-runs_lower : (v w : Net) (g k : ℕ) → Runs v w g k → Lower v g k w
+pub runs_lower : (v w : Net) (g k : ℕ) → Runs v w g k → Lower v g k w
 runs_lower v w g k (none l) = lower_none v l
 runs_lower v x _ _ (then {w = w} {g = g} {k = k} rest before r after run) =
     let so_far = runs_lower v w g k rest in

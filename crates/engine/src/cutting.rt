@@ -1,0 +1,69 @@
+// The cheapest selections of a network, by runs that are repeated until one finishes.
+ghost use Rattle.std.specs.Prelude.{◌≡◌, ℕ, ◌+◌, ◌<◌, ◌≤◌, IfOk, length, map, slice_index, vec_items};
+ghost use Rattle.network.specs.declared.mark.Mark.{Mark as TheMark};
+ghost use Rattle.network.specs.Marks.{mark_byte};
+ghost use Rattle.network.specs.Cuts.{CheapestCost};
+ghost use Rattle.search.specs.Runs.{MarksOf};
+ghost use Rattle.engine.specs.Answers.{AllMarked};
+
+use super::running::Runs;
+use network::Mark;
+use search::Outcome;
+use std::alloc::{AllocError, Global};
+use trees::Work;
+
+// How many words the trail of each run has, at least.
+const TRAIL_WORDS: usize = 4_096;
+
+// What the cheapest selections of a network cost, and what they say of each node.
+#[derive(PartialEq, Eq, Debug, Drop)]
+pub struct Cut {
+    pub cost: u64,
+    pub marks: Vec<Mark>,
+}
+
+// The cheapest selections of a network. Runs are repeated until none of their paths is left.
+pub fn cheapest_cut<N: Runs>(heap: Global, net: &mut N) -> Result<Cut, AllocError>
+    ensures cut { IfOk result (λ cut. CheapestCost (N.value net.old) cut.cost × AllMarked (N.value net.old) (vec_items cut.marks)) }
+    ensures kept { N.keeps net.old net.new }
+{
+    let nodes = net.node_count();
+    let mut work = vec![in heap; Work::blank(); nodes]?;
+    // room for one path at least, so that no run ends where it began
+    let mut trail = vec![in heap; 0; TRAIL_WORDS.max(nodes + 2)]?;
+    let mut bytes = vec![in heap; 0; nodes]?;
+    let cost = finish(net, &mut work, &mut trail, &mut bytes);
+    let marks = read_marks(heap, &bytes)?;
+    Ok(Cut { cost, marks })
+}
+
+// Repeats runs until one finishes, and answers what all of them gained.
+fn finish<N: Runs>(net: &mut N, work: &mut [Work], trail: &mut [u64], marks: &mut [u8]) -> u64
+    requires records { (N.value net.old).graph.nodes ≤ length work.old }
+    requires words { (N.value net.old).graph.nodes + 2 ≤ length trail.old }
+    requires bytes { (N.value net.old).graph.nodes ≤ length marks.old }
+    ensures least { CheapestCost (N.value net.old) result }
+    ensures marks { MarksOf (N.value net.old) (N.value net.old).graph.nodes marks.new }
+    ensures kept { N.keeps net.old net.new }
+{
+    let mut gain = 0;
+    loop {
+        let report = net.run(work, trail, marks).unwrap();
+        gain += report.log.gain;
+        if report.outcome == Outcome::Finished {
+            return gain;
+        }
+    }
+}
+
+// The marks that bytes stand for.
+fn read_marks(heap: Global, bytes: &[u8]) -> Result<Vec<Mark>, AllocError>
+    requires { (u : ℕ) → u < length bytes.now → (m : TheMark) × (slice_index bytes.now u ≡ mark_byte m) }
+    ensures { IfOk result (λ marks. map mark_byte (vec_items marks) ≡ bytes.now) }
+{
+    let mut marks = Vec::new(heap);
+    for byte in bytes {
+        marks.push(Mark::of(*byte).unwrap())?;
+    }
+    Ok(marks)
+}
