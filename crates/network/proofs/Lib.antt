@@ -9,4 +9,5 @@ pub mod Extremes
 pub mod Chains
 pub mod Searching
 pub mod Duality
+pub mod Marking
 pub mod Trails

@@ -1,6 +1,7 @@
 -- What is proved of every network's value: the theory of the cheapest cut.
-use Rattle.std.specs.Prelude.{◌≡◌, ℕ, ◌+◌, ◌<◌, ◌≤◌, true, List, length, ◌≢◌}
+use Rattle.std.specs.Prelude.{◌≡◌, ℕ, ◌+◌, ◌<◌, ◌≤◌, Bool, true, false, List, length, ◌≢◌}
 use Rattle.network.specs.declared.mark.Mark.{Mark}
+use Rattle.network.specs.declared.mark.Mark.TheVariants.{In, Out, Either}
 use Rattle.network.specs.declared.terminal.Terminal.{Terminal}
 use Rattle.network.specs.declared.terminal.Terminal.TheVariants.{Source, Sink}
 use Rattle.network.specs.Nets.{Net, Lawful}
@@ -90,6 +91,16 @@ MaxFlowMinCut = (v : Net) → Lawful v → (ps : List Path) × Successive v ps �
 -- a node has one mark at most
 abbrev pub OneMark : Type 0
 OneMark = (v : Net) (u : ℕ) (m k : Mark) → Lawful v → Marked v u m → Marked v u k → m ≡ k
+
+-- whether a selection takes a node of this mark: in, and either too where b says so
+abbrev pub takes : Bool → Mark → Bool
+takes b In = true
+takes b Out = false
+takes b Either = b
+
+-- the nodes that every cheapest selection holds are themselves a cheapest selection, and so are those that some cheapest selection holds
+abbrev pub MarkedCheapest : Type 0
+MarkedCheapest = (v : Net) (mark : ℕ → Mark) (b : Bool) → Lawful v → ((u : ℕ) → u < v.graph.nodes → Marked v u (mark u)) → Cheapest v (λ u. takes b (mark u))
 
 -- the words of a trail are those of one list of paths only
 abbrev pub OneReading : Type 0

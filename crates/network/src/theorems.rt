@@ -1,5 +1,5 @@
 // The theory of the cheapest cut: each contract here is a theorem about every network's value, and no body does anything.
-ghost use Rattle.network.specs.Theorems.{TakeKeeps, ShiftKeeps, PathLowers, PathsLower, FewPaths, FewWords, ClosedFree, CheapestClosed, ReachedSides, Extremes, ConstantApart, Finished, PathLeft, MaxFlowMinCut, OneMark, OneReading};
+ghost use Rattle.network.specs.Theorems.{TakeKeeps, ShiftKeeps, PathLowers, PathsLower, FewPaths, FewWords, ClosedFree, CheapestClosed, ReachedSides, Extremes, ConstantApart, Finished, PathLeft, MaxFlowMinCut, OneMark, MarkedCheapest, OneReading};
 
 fn changes_keep_the_laws()
     ensures take { TakeKeeps }
@@ -30,4 +30,8 @@ fn paths_gain_what_a_cut_costs()
     ensures left { PathLeft }
     ensures most { MaxFlowMinCut }
     ensures mark { OneMark }
+{}
+
+fn marks_tell_cheapest_selections()
+    ensures { MarkedCheapest }
 {}
