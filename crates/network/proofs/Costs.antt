@@ -1,13 +1,13 @@
 -- How the cost of a selection moves with a take and with a shift, told without subtraction.
-use Rattle.std.proofs.Common.{◌≡◌, ℕ, ◌+◌, ◌-◌, ◌<◌, ◌≤◌, Bool, cond, not, Some, sym, refl, subst, arith}
+use Rattle.std.proofs.Common.{◌≡◌, ℕ, ◌+◌, ◌-◌, ◌<◌, ◌≤◌, Bool, cond, not, Some, None, Option, sym, refl, ap, subst, arith}
 use Rattle.std.proofs.lemmas.Bool.{cases_Bool}
 use Rattle.std.proofs.lemmas.Bool.Decides.{nat_tests}
 use Rattle.network.specs.declared.terminal.Terminal.{Terminal}
 use Rattle.network.specs.declared.terminal.Terminal.TheVariants.{Source, Sink}
-use Rattle.network.specs.Nets.{Ends, Net, Lawful, reversed, with_terminal, with_residual, taken, shifted}
+use Rattle.network.specs.Nets.{Ends, Net, LawfulGraph, Lawful, reversed, with_terminal, with_residual, taken, shifted}
 use Rattle.network.specs.Cuts.{Selection, node_cost, leaves, arc_cost, cost}
-use Rattle.network.proofs.Sums.{sum_differs}
-use Rattle.network.proofs.Laws.{reverse_is}
+use Rattle.network.proofs.Sums.{sum_same, sum_differs}
+use Rattle.network.proofs.Laws.{reverse_is, head_there}
 
 -- x where b holds, else 0
 abbrev pub when : Bool → ℕ → ℕ
@@ -58,3 +58,14 @@ shifted_cost v X a x e l is less =
     let kept : lowered.residual b ≡ v.residual b = grind (arith, nat_tests) in
     let moved : cost (with_residual lowered b (v.residual b + x)) X + when (X e.tail) x ≡ cost v X + when (X e.head) x = grind (arith, cases_Bool (X e.tail), cases_Bool (X e.head)) in
     subst (λ r. cost (with_residual lowered r (v.residual r + x)) X + when (X e.tail) x ≡ cost v X + when (X e.head) x) (sym (reverse_is v.graph a e is)) moved
+
+-- a selection's cost is told by the nodes that are there
+pub cost_same : (v : Net) (X Y : Selection) → LawfulGraph v.graph → ((u : ℕ) → u < v.graph.nodes → X u ≡ Y u) → cost v X ≡ cost v Y
+cost_same v X Y l same =
+    let nodes = sum_same v.graph.nodes (node_cost v X) (node_cost v Y) (λ u there. ap (λ b. cond b (v.terminal Sink u) (v.terminal Source u)) (same u there)) in
+    let arcs = sum_same 32768 (arc_cost v X) (arc_cost v Y) (λ a _. ap (λ b. cond b (v.residual a) 0) (each_arc a (v.graph.ends a) refl)) in
+    omega arith
+  where
+    each_arc : (a : ℕ) (o : Option Ends) → v.graph.ends a ≡ o → leaves X o ≡ leaves Y o
+    each_arc a None is = refl
+    each_arc a (Some e) is = rw (same e.tail (l.tail_there a e is), same e.head (head_there v.graph a e l is))
