@@ -3,7 +3,7 @@ use Rattle.std.proofs.Common.{◌≡◌, ℕ, ◌+◌, ◌<◌, ◌≤◌, List,
 use lib.ListN.{length-map}
 use Rattle.network.specs.declared.mark.Mark.{Mark}
 use Rattle.network.specs.Nets.{Net, Lawful}
-use Rattle.network.specs.Cuts.{CheapestCost}
+use Rattle.network.specs.Cuts.{CheapestCost, AllMarked}
 use Rattle.book.specs.Books.{Book, empty, network_of}
 use Rattle.book.specs.Calls.{Open, used}
 use Rattle.book.specs.Plans.{BestPlans, total_earnings}
@@ -20,7 +20,7 @@ use Rattle.filing.specs.Books.{amounts_of, book_of}
 use Rattle.filing.specs.Loads.{Loaded}
 use Rattle.engine.specs.declared.refusal.PlanRefusal.{PlanRefusal}
 use Rattle.engine.specs.declared.refusal.PlanRefusal.TheVariants.{TooLong, Load}
-use Rattle.engine.specs.Answers.{Answer, AllMarked, GreatestNet, Right}
+use Rattle.engine.specs.Answers.{Answer, GreatestNet, Right}
 use Rattle.engine.specs.Plans.{Planned, ThePlan}
 use Rattle.engine.proofs.Rights.{one_right, greatest_net}
 

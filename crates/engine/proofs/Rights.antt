@@ -8,12 +8,12 @@ use Rattle.network.specs.declared.mark.Mark.{Mark}
 use Rattle.network.specs.declared.mark.Mark.TheVariants.{In, Out, Either}
 use Rattle.network.specs.Marks.{mark_byte}
 use Rattle.network.specs.Nets.{Net, Lawful}
-use Rattle.network.specs.Cuts.{CheapestCost, Marked}
+use Rattle.network.specs.Cuts.{CheapestCost, Marked, AllMarked}
 use Rattle.network.proofs.Duality.{one_mark}
 use Rattle.search.specs.Runs.{MarksOf}
 use Rattle.book.specs.Books.{Book, network_of}
 use Rattle.book.specs.Plans.{BestPlans, total_earnings}
-use Rattle.engine.specs.Answers.{Answer, AllMarked, GreatestNet, Right}
+use Rattle.engine.specs.Answers.{Answer, GreatestNet, Right}
 
 -- a network has one cheapest cost
 pub one_cost : (v : Net) (c d : ℕ) → CheapestCost v c → CheapestCost v d → c ≡ d

@@ -1,9 +1,7 @@
 -- The right answer for a book: its best plans, as its cheapest selections tell them.
-use Rattle.std.specs.Prelude.{◌≡◌, ℕ, ◌+◌, ◌≤◌, List, length, Some}
-use Rattle.std.specs.List.{slice_get}
+use Rattle.std.specs.Prelude.{◌≡◌, ℕ, ◌+◌, ◌≤◌, List, length}
 use Rattle.network.specs.declared.mark.Mark.{Mark}
-use Rattle.network.specs.Nets.{Net}
-use Rattle.network.specs.Cuts.{Selection, CheapestCost, Marked}
+use Rattle.network.specs.Cuts.{Selection, CheapestCost, AllMarked}
 use Rattle.book.specs.Books.{Book, network_of}
 use Rattle.book.specs.Plans.{Plan, total_earnings, earned, paid}
 use Rattle.sheet.specs.declared.Counts.{Counts}
@@ -14,10 +12,6 @@ pub record Answer : Type 0 where
   pub net : ℕ
   -- the entries' marks, in order of number
   pub marks : List Mark
-
--- a mark for each node, true of the cheapest selections
-abbrev pub AllMarked : Net → List Mark → Type 0
-AllMarked v marks = (length marks ≡ v.graph.nodes) × ((u : ℕ) (m : Mark) → slice_get marks u ≡ Some m → Marked v u m)
 
 -- k is the net of a plan, and no plan has a greater one
 pub record GreatestNet (b : Book) (k : ℕ) : Type 0 where

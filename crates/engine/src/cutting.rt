@@ -2,9 +2,8 @@
 ghost use Rattle.std.specs.Prelude.{◌≡◌, ℕ, ◌+◌, ◌<◌, ◌≤◌, IfOk, length, map, slice_index, vec_items};
 ghost use Rattle.network.specs.declared.mark.Mark.{Mark as TheMark};
 ghost use Rattle.network.specs.Marks.{mark_byte};
-ghost use Rattle.network.specs.Cuts.{CheapestCost};
+ghost use Rattle.network.specs.Cuts.{CheapestCost, AllMarked};
 ghost use Rattle.search.specs.Runs.{MarksOf};
-ghost use Rattle.engine.specs.Answers.{AllMarked};
 
 use super::running::Runs;
 use network::Mark;

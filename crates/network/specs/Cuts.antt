@@ -1,5 +1,6 @@
 -- Selections of nodes, the source's side of a cut: what each costs, which are cheapest, and the marks that follow.
-use Rattle.std.specs.Prelude.{◌≡◌, ℕ, zero, suc, ◌+◌, ◌≤◌, Bool, true, false, cond, not, ◌&&◌, Some, None, Option}
+use Rattle.std.specs.Prelude.{◌≡◌, ℕ, zero, suc, ◌+◌, ◌≤◌, Bool, true, false, cond, not, ◌&&◌, List, length, Some, None, Option}
+use Rattle.std.specs.List.{slice_get}
 use Rattle.network.specs.declared.mark.Mark.{Mark}
 use Rattle.network.specs.declared.mark.Mark.TheVariants.{In, Out, Either}
 use Rattle.network.specs.declared.terminal.Terminal.TheVariants.{Source, Sink}
@@ -43,3 +44,7 @@ abbrev pub Marked : Net → ℕ → Mark → Type 0
 Marked v u In = (X : Selection) → Cheapest v X → X u ≡ true
 Marked v u Out = (X : Selection) → Cheapest v X → X u ≡ false
 Marked v u Either = ((X : Selection) × Cheapest v X × (X u ≡ true)) × ((Y : Selection) × Cheapest v Y × (Y u ≡ false))
+
+-- a mark for each node, true of the cheapest selections
+abbrev pub AllMarked : Net → List Mark → Type 0
+AllMarked v marks = (length marks ≡ v.graph.nodes) × ((u : ℕ) (m : Mark) → slice_get marks u ≡ Some m → Marked v u m)
