@@ -107,5 +107,5 @@ also_by_test v k c marks (short_trail words) few j h =
     let (some, short) = and_parts (ltb 0 c) (ltb words (v.graph.nodes + 2)) h in
     record {
       left = (path_left v few.lawful).1 (λ X free. omega (arith, j.least X, ltb-true 0 c some));
-      short = ltb-true words (v.graph.nodes + 2) short;
+      few = ltb-true words (v.graph.nodes + 2) short;
     }

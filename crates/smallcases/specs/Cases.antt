@@ -5,7 +5,7 @@ use Rattle.network.specs.declared.mark.Mark.TheVariants.{In, Out, Either}
 use Rattle.network.specs.Nets.{Net}
 use Rattle.network.specs.Cuts.{CheapestCost, AllMarked}
 use Rattle.network.specs.Paths.{Path, Augmenting, carried, path_words}
-use Rattle.book.specs.Books.{Amounts, Need, Book, network_of}
+use Rattle.book.specs.Books.{Book, empty, with_entry, network_of}
 
 -- what a case is about
 pub data Subject : Type 0 where
@@ -17,9 +17,9 @@ network (a_book b) = network_of b
 -- what is said of a case besides its cheapest cost and its marks
 pub data Besides : Type 0 where
   nothing_else : Besides
-  -- these are the words of its only path
+  -- the words of its only path
   only_path : List ℕ → Besides
-  -- a trail of so many words is too short for a path that is left
+  -- a trail of so many words, too short for a run to carry out the path that is left
   short_trail : ℕ → Besides
 
 -- there is one augmenting path, these are its words in a trail, and none is left after it
@@ -30,15 +30,15 @@ pub record OnlyPath (v : Net) (words : List ℕ) : Type 0 where
   pub only : (p : Path) → Augmenting v p → p ≡ path
   pub last : (p : Path) → Augmenting (carried v path) p → ⊥
 
--- a path is left, and a run with so many words of trail pauses before it carries any out
-pub record PausesAtOnce (v : Net) (words : ℕ) : Type 0 where
+-- a path is left, and a trail of so many words has fewer than the n + 2 with which a run goes on
+pub record TooShort (v : Net) (words : ℕ) : Type 0 where
   pub left : (p : Path) × Augmenting v p
-  pub short : words < v.graph.nodes + 2
+  pub few : words < v.graph.nodes + 2
 
 abbrev pub Also : Net → Besides → Type 0
 Also v nothing_else = Unit {0}
 Also v (only_path words) = OnlyPath v words
-Also v (short_trail words) = PausesAtOnce v words
+Also v (short_trail words) = TooShort v words
 
 pub record Case : Type 0 where
   pub subject : Subject
@@ -55,44 +55,29 @@ pub record Holds (c : Case) : Type 0 where
 
 -- Words to write the table with.
 
--- a case of a book with nothing besides
-abbrev pub book_case : Book → ℕ → List Mark → Case
-book_case b c marks = record { subject = a_book b; least = c; marks = marks; besides = nothing_else }
+abbrev pub row : Subject → ℕ → List Mark → Besides → Case
+row s c marks x = record { subject = s; least = c; marks = marks; besides = x }
 
--- c with something besides
-abbrev pub with_besides : Case → Besides → Case
-with_besides c x = record { subject = c.subject; least = c.least; marks = c.marks; besides = x }
+-- a book of one entry, which earns x and costs y
+abbrev pub one_entry : ℕ → ℕ → Book
+one_entry x y = with_entry empty x y
 
--- earning and cost of an entry
-abbrev pub entry : ℕ → ℕ → Amounts
-entry x y = record { earning = x; cost = y }
-
-abbrev pub need : ℕ → ℕ → Need
-need u w = record { entry = u; needed = w }
-
--- a book of these entries, none of which needs another
-abbrev pub book : List Amounts → Book
-book entries = record { entries = entries; needs = [] }
-
--- two jobs that need one set-up of this cost
+-- two jobs that both need a set-up, which costs y
 abbrev pub two_jobs : ℕ → Book
 two_jobs y = record {
-  entries = entry 50 0 ∷ entry 30 0 ∷ entry 0 y ∷ [];
-  needs = need 0 2 ∷ need 1 2 ∷ [];
+  entries = record { earning = 50; cost = 0 } ∷ record { earning = 30; cost = 0 } ∷ record { earning = 0; cost = y } ∷ [];
+  needs = record { entry = 0; needed = 2 } ∷ record { entry = 1; needed = 2 } ∷ [];
 }
 
-abbrev pub book_cases : List Case
-book_cases =
-    book_case (book []) 0 []
-    ∷ book_case (book (entry 0 0 ∷ [])) 0 (Either ∷ [])
-    ∷ with_besides (book_case (book (entry 5 5 ∷ [])) 5 (Either ∷ [])) (only_path (0 ∷ 5 ∷ 0 ∷ []))
-    ∷ book_case (book (entry 5 0 ∷ [])) 0 (In ∷ [])
-    ∷ book_case (book (entry 0 5 ∷ [])) 0 (Out ∷ [])
-    ∷ book_case (two_jobs 60) 60 (In ∷ In ∷ In ∷ [])
-    ∷ book_case (two_jobs 80) 80 (Either ∷ Either ∷ Either ∷ [])
-    ∷ book_case (two_jobs 90) 80 (Out ∷ Out ∷ Out ∷ [])
-    ∷ with_besides (book_case (two_jobs 60) 60 (In ∷ In ∷ In ∷ [])) (short_trail 4)
-    ∷ []
-
 abbrev pub table : List Case
-table = book_cases
+table =
+    row (a_book empty) 0 [] nothing_else
+    ∷ row (a_book (one_entry 0 0)) 0 (Either ∷ []) nothing_else
+    ∷ row (a_book (one_entry 5 5)) 5 (Either ∷ []) (only_path (0 ∷ 5 ∷ 0 ∷ []))
+    ∷ row (a_book (one_entry 5 0)) 0 (In ∷ []) nothing_else
+    ∷ row (a_book (one_entry 0 5)) 0 (Out ∷ []) nothing_else
+    ∷ row (a_book (two_jobs 60)) 60 (In ∷ In ∷ In ∷ []) nothing_else
+    ∷ row (a_book (two_jobs 80)) 80 (Either ∷ Either ∷ Either ∷ []) nothing_else
+    ∷ row (a_book (two_jobs 90)) 80 (Out ∷ Out ∷ Out ∷ []) nothing_else
+    ∷ row (a_book (two_jobs 60)) 60 (In ∷ In ∷ In ∷ []) (short_trail 4)
+    ∷ []
