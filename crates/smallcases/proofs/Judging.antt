@@ -8,7 +8,7 @@ use Rattle.network.specs.Nets.{Net}
 use Rattle.network.specs.Cuts.{Selection, cost, Cheapest, CheapestCost, Marked, AllMarked}
 use Rattle.network.specs.Theorems.{takes}
 use Rattle.network.proofs.Costs.{cost_same}
-use Rattle.smallcases.proofs.Sums.{FewCodes, cost_below, cost_few}
+use Rattle.smallcases.proofs.Codes.{FewCodes, cost_below, cost_few}
 use Rattle.smallcases.proofs.Trying.{all_pass, tried}
 
 -- the mark of a node; past the end of the marks, one that no selection takes

@@ -1,7 +1,8 @@
-pub mod Sums
+pub mod Codes
 pub mod Trying
 pub mod Judging
 pub mod Tests
+pub mod Books
 pub mod Subjects
 pub mod Paths
 pub mod Rows

@@ -13,7 +13,7 @@ use Rattle.network.proofs.Carrying.{path_lowers}
 use Rattle.network.proofs.Duality.{path_left}
 use Rattle.smallcases.specs.Cases.{Besides, OnlyPath, Also}
 use Rattle.smallcases.specs.Cases.Besides.{nothing_else, only_path, short_trail}
-use Rattle.smallcases.proofs.Sums.{FewCodes}
+use Rattle.smallcases.proofs.Codes.{FewCodes}
 use Rattle.smallcases.proofs.Judging.{Judged, judged_cost}
 
 -- v has one node and no arc, and x can be sent to the node and from it
