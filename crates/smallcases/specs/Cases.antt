@@ -59,25 +59,25 @@ abbrev pub row : Subject → ℕ → List Mark → Besides → Case
 row s c marks x = record { subject = s; least = c; marks = marks; besides = x }
 
 -- a book of one entry, which earns x and costs y
-abbrev pub one_entry : ℕ → ℕ → Book
-one_entry x y = with_entry empty x y
+abbrev pub one_entry : ℕ → ℕ → Subject
+one_entry x y = a_book (with_entry empty x y)
 
 -- two jobs that both need a set-up, which costs y
-abbrev pub two_jobs : ℕ → Book
-two_jobs y = record {
+abbrev pub two_jobs : ℕ → Subject
+two_jobs y = a_book (record {
   entries = record { earning = 50; cost = 0 } ∷ record { earning = 30; cost = 0 } ∷ record { earning = 0; cost = y } ∷ [];
   needs = record { entry = 0; needed = 2 } ∷ record { entry = 1; needed = 2 } ∷ [];
-}
+})
 
 abbrev pub table : List Case
 table =
     row (a_book empty) 0 [] nothing_else
-    ∷ row (a_book (one_entry 0 0)) 0 (Either ∷ []) nothing_else
-    ∷ row (a_book (one_entry 5 5)) 5 (Either ∷ []) (only_path (0 ∷ 5 ∷ 0 ∷ []))
-    ∷ row (a_book (one_entry 5 0)) 0 (In ∷ []) nothing_else
-    ∷ row (a_book (one_entry 0 5)) 0 (Out ∷ []) nothing_else
-    ∷ row (a_book (two_jobs 60)) 60 (In ∷ In ∷ In ∷ []) nothing_else
-    ∷ row (a_book (two_jobs 80)) 80 (Either ∷ Either ∷ Either ∷ []) nothing_else
-    ∷ row (a_book (two_jobs 90)) 80 (Out ∷ Out ∷ Out ∷ []) nothing_else
-    ∷ row (a_book (two_jobs 60)) 60 (In ∷ In ∷ In ∷ []) (short_trail 4)
+    ∷ row (one_entry 0 0) 0 (Either ∷ []) nothing_else
+    ∷ row (one_entry 5 5) 5 (Either ∷ []) (only_path (0 ∷ 5 ∷ 0 ∷ []))
+    ∷ row (one_entry 5 0) 0 (In ∷ []) nothing_else
+    ∷ row (one_entry 0 5) 0 (Out ∷ []) nothing_else
+    ∷ row (two_jobs 60) 60 (In ∷ In ∷ In ∷ []) nothing_else
+    ∷ row (two_jobs 80) 80 (Either ∷ Either ∷ Either ∷ []) nothing_else
+    ∷ row (two_jobs 90) 80 (Out ∷ Out ∷ Out ∷ []) nothing_else
+    ∷ row (two_jobs 60) 60 (In ∷ In ∷ In ∷ []) (short_trail 4)
     ∷ []
