@@ -3,6 +3,7 @@ pub mod Trying
 pub mod Judging
 pub mod Tests
 pub mod Books
+pub mod Tiles
 pub mod Subjects
 pub mod Paths
 pub mod Rows

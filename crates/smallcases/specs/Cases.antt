@@ -6,13 +6,17 @@ use Rattle.network.specs.Nets.{Net}
 use Rattle.network.specs.Cuts.{CheapestCost, AllMarked}
 use Rattle.network.specs.Paths.{Path, Augmenting, carried, path_words}
 use Rattle.book.specs.Books.{Book, empty, with_entry, network_of}
+use Rattle.tile.specs.Tiles.{tile_network}
 
 -- what a case is about
 pub data Subject : Type 0 where
   a_book : Book → Subject
+  -- width, height, and four bytes a pixel
+  a_tile : ℕ → ℕ → List ℕ → Subject
 
 abbrev pub network : Subject → Net
 network (a_book b) = network_of b
+network (a_tile w h bytes) = tile_network w h bytes
 
 -- what is said of a case besides its cheapest cost and its marks
 pub data Besides : Type 0 where
@@ -69,6 +73,10 @@ two_jobs y = a_book (record {
   needs = record { entry = 0; needed = 2 } ∷ record { entry = 1; needed = 2 } ∷ [];
 })
 
+-- two pixels side by side, which cost 2 and 6 as line and 7 and 5 as tone, with the penalty p where one is line and the other tone
+abbrev pub two_pixels : ℕ → Subject
+two_pixels p = a_tile 2 1 (2 ∷ 7 ∷ p ∷ 0 ∷ 6 ∷ 5 ∷ 0 ∷ 0 ∷ [])
+
 abbrev pub table : List Case
 table =
     row (a_book empty) 0 [] nothing_else
@@ -80,4 +88,7 @@ table =
     ∷ row (two_jobs 80) 80 (Either ∷ Either ∷ Either ∷ []) nothing_else
     ∷ row (two_jobs 90) 80 (Out ∷ Out ∷ Out ∷ []) nothing_else
     ∷ row (two_jobs 60) 60 (In ∷ In ∷ In ∷ []) (short_trail 4)
+    ∷ row (two_pixels 3) 8 (In ∷ In ∷ []) nothing_else
+    ∷ row (two_pixels 1) 8 (In ∷ Either ∷ []) nothing_else
+    ∷ row (two_pixels 0) 7 (In ∷ Out ∷ []) nothing_else
     ∷ []
