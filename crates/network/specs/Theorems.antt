@@ -92,15 +92,15 @@ MaxFlowMinCut = (v : Net) → Lawful v → (ps : List Path) × Successive v ps �
 abbrev pub OneMark : Type 0
 OneMark = (v : Net) (u : ℕ) (m k : Mark) → Lawful v → Marked v u m → Marked v u k → m ≡ k
 
--- whether a selection takes a node of this mark: in, and either too where b says so
-abbrev pub takes : Bool → Mark → Bool
-takes b In = true
-takes b Out = false
-takes b Either = b
+-- whether a node of this mark is inside the selection of the nodes that are in, and that are either too where b says so
+abbrev pub inside : Bool → Mark → Bool
+inside b In = true
+inside b Out = false
+inside b Either = b
 
 -- the nodes that every cheapest selection holds are themselves a cheapest selection, and so are those that some cheapest selection holds
 abbrev pub MarkedCheapest : Type 0
-MarkedCheapest = (v : Net) (mark : ℕ → Mark) (b : Bool) → Lawful v → ((u : ℕ) → u < v.graph.nodes → Marked v u (mark u)) → Cheapest v (λ u. takes b (mark u))
+MarkedCheapest = (v : Net) (mark : ℕ → Mark) (b : Bool) → Lawful v → ((u : ℕ) → u < v.graph.nodes → Marked v u (mark u)) → Cheapest v (λ u. inside b (mark u))
 
 -- the words of a trail are those of one list of paths only
 abbrev pub OneReading : Type 0

@@ -6,24 +6,24 @@ use Rattle.network.specs.declared.mark.Mark.{Mark}
 use Rattle.network.specs.declared.mark.Mark.TheVariants.{In, Out, Either}
 use Rattle.network.specs.Nets.{Net}
 use Rattle.network.specs.Cuts.{Selection, cost, Cheapest, CheapestCost, Marked, AllMarked}
-use Rattle.network.specs.Theorems.{takes}
+use Rattle.network.specs.Theorems.{inside}
 use Rattle.network.proofs.Costs.{cost_same}
 use Rattle.smallcases.proofs.Codes.{FewCodes, cost_below, cost_few}
 use Rattle.smallcases.proofs.Trying.{all_pass, tried}
 
--- the mark of a node; past the end of the marks, one that no selection takes
+-- the mark of a node; past the end of the marks, out
 abbrev pub mark_at : List Mark → ℕ → Mark
 mark_at marks u = get_or marks u Out
 
 -- the nodes that are in, and those that are either too where b says so
 abbrev pub by_marks : List Mark → Bool → Selection
-by_marks marks b u = takes b (mark_at marks u)
+by_marks marks b u = inside b (mark_at marks u)
 
--- whether a node of this mark may be inside, or outside, of a cheapest selection
+-- whether a cheapest selection may hold a node of this mark, where b holds, or not hold it
 abbrev pub fits : Mark → Bool → Bool
-fits In inside = inside
-fits Out inside = not inside
-fits Either inside = true
+fits In b = b
+fits Out b = not b
+fits Either b = true
 
 -- whether a selection of n nodes does what the marks say
 abbrev pub fits_all : ℕ → List Mark → Selection → Bool
@@ -109,8 +109,8 @@ judged_mark v c u marks m j there is = by m is
     by In is = fitting In is
     by Out is = λ X cheapest. not-true (X u) (fitting Out is X cheapest)
     by Either is = (
-      (by_marks marks true, extreme_cheapest v c marks true j, ap (takes true) is),
-      (by_marks marks false, extreme_cheapest v c marks false j, ap (takes false) is),
+      (by_marks marks true, extreme_cheapest v c marks true j, ap (inside true) is),
+      (by_marks marks false, extreme_cheapest v c marks false j, ap (inside false) is),
     )
 
 pub judged_marks : (v : Net) (c : ℕ) (marks : List Mark) → Judged v c marks → AllMarked v marks
