@@ -42,3 +42,12 @@ sum_mono f u (suc w) less = ⊎_elim
     (λ (same : u ≡ suc w). omega (arith, ap (λ k. sum_below k f) same))
     (λ (not : u ≡ suc w → ⊥). omega (arith, sum_mono f u w (omega (arith, not))))
     (cases_eq u (suc w))
+
+-- numbers past k add nothing where each part is 0
+pub sum_past : (n k : ℕ) (f : ℕ → ℕ) → k ≤ n → ((u : ℕ) → k ≤ u → f u ≡ 0) → sum_below n f ≡ sum_below k f
+unfolding sum_below
+sum_past zero k f less none = let same : k ≡ 0 = omega arith in rw same refl
+sum_past (suc n) k f less none = ⊎_elim
+    (λ (same : k ≡ suc n). rw same refl)
+    (λ (not : k ≡ suc n → ⊥). omega (arith, sum_past n k f (omega (arith, not)) none, none n (omega (arith, not))))
+    (cases_eq k (suc n))

@@ -1,13 +1,11 @@
 -- Every selection of a tile's network costs its energy.
-use Rattle.std.proofs.Common.{◌≡◌, ℕ, zero, suc, ◌+◌, ◌*◌, ◌/◌, ◌%◌, ◌<◌, ◌≤◌, Bool, true, false, cond, not, ◌&&◌, List, refl, ap, ◌∙◌, sym, ⊎_elim, arith}
-use Rattle.std.proofs.lemmas.Bool.{cases_Bool, cases_eq, le-ltb}
-use Rattle.std.proofs.lemmas.Bool.Decides.{nat_tests}
-use Rattle.network.specs.Nets.{Net}
-use Rattle.network.specs.Cuts.{Selection, sum_below, node_cost, leaves, arc_cost, cost}
-use Rattle.network.proofs.Sums.{sum_same, sum_zero}
-use Rattle.tile.specs.Grids.{owner, neighbour, joined, grid}
+use Rattle.std.proofs.Common.{◌≡◌, ℕ, zero, suc, ◌+◌, ◌*◌, ◌≤◌, Bool, true, false, cond, not, ◌&&◌, List, refl, ap, ◌∙◌, ⊎_elim, arith}
+use Rattle.std.proofs.lemmas.Bool.{cases_Bool, le-ltb}
+use Rattle.network.specs.Cuts.{Selection, sum_below, node_cost, arc_cost, cost}
+use Rattle.network.proofs.Sums.{sum_same, sum_past}
+use Rattle.tile.specs.Grids.{owner, neighbour, joined}
 use Rattle.tile.specs.Laws.{pair_out, pair_back, out_there, back_there}
-use Rattle.tile.specs.Tiles.{line, tone, penalty, tile_network, differ, energy}
+use Rattle.tile.specs.Tiles.{penalty, tile_network, differ, energy}
 
 -- a sum over twice as many numbers takes them two by two
 sum_pairs : (m : ℕ) (f : ℕ → ℕ) → sum_below (2 * m) f ≡ sum_below m (λ p. f (2 * p) + f (2 * p + 1))
@@ -17,15 +15,6 @@ sum_pairs (suc m) f =
     let two : 2 * suc m ≡ suc (suc (2 * m)) = omega arith in
     let next : suc (2 * m) ≡ 2 * m + 1 = omega arith in
     rw (two, next) (omega (arith, sum_pairs m f))
-
--- numbers past k add nothing
-sum_past : (n k : ℕ) (f : ℕ → ℕ) → k ≤ n → ((u : ℕ) → k ≤ u → f u ≡ 0) → sum_below n f ≡ sum_below k f
-unfolding sum_below
-sum_past zero k f less none = let same : k ≡ 0 = omega arith in rw same refl
-sum_past (suc n) k f less none = ⊎_elim
-    (λ (same : k ≡ suc n). rw same refl)
-    (λ (not : k ≡ suc n → ⊥). omega (arith, sum_past n k f (omega (arith, not)) none, none n (omega (arith, not))))
-    (cases_eq k (suc n))
 
 -- what two arcs pay that lead to and fro
 to_and_fro : (x y : Bool) (k : ℕ) → cond (x && not y) k 0 + cond (y && not x) k 0 ≡ cond (differ x y) k 0
@@ -42,7 +31,7 @@ pair_cost w h bs X p = ⊎_elim
     (cases_Bool (joined w (w * h) p))
 
 -- there are no pairs past the last pixel's
-no_pair : (w n p : ℕ) → 2 * n ≤ p → joined w n p ≡ false
+pub no_pair : (w n p : ℕ) → 2 * n ≤ p → joined w n p ≡ false
 no_pair w n p past = let far : n ≤ neighbour w p = omega arith in rw (le-ltb (neighbour w p) n far) refl
 
 -- all codes together pay the penalties of neighbours that differ
