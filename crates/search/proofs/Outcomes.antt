@@ -48,7 +48,7 @@ ran v w before r part trail bytes ps m l is records room long wide logged end = 
     after = record { work = part ++ drop m before.work; trail = trail; marks = bytes ++ drop m before.marks }
 
     nodes : w.graph.nodes ≡ v.graph.nodes
-    nodes = logged_nodes l (ps, logged)
+    nodes = logged_nodes (ps, logged)
 
     stopped : (o : Outcome) → Ended w trail r.log (take m before.marks) bytes o → Stopped o v w before after r.log.words
     stopped Paused ((path, short), same) = (path, omega (arith, nodes, trail_length logged), ap (λ (xs : List ℕ). xs ++ drop m before.marks) same ∙ take-append-drop m before.marks)

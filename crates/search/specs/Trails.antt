@@ -12,10 +12,15 @@ use Rattle.search.specs.declared.report.Log.{Log}
 use Rattle.search.specs.declared.report.Outcome.{Outcome}
 use Rattle.search.specs.declared.report.Outcome.TheVariants.{Finished, Paused}
 
--- the paths ps led from v to w: each is an augmenting path on what those before it left; the trail begins with their words, and
--- ends as it did before; the log counts them, their gain and their words
+-- each path is begun where n + 2 words are unused: of a trail of so many words, those of the paths before it are used
+abbrev pub RoomForEach : ℕ → ℕ → List Path → Type 0
+RoomForEach n size ps = (k : ℕ) → k < length ps → length (trail_words (take k ps)) + (n + 2) ≤ size
+
+-- the paths ps led from v to w: each is an augmenting path on what those before it left, and was begun only where there was room;
+-- the trail begins with their words, and ends as it did before; the log counts them, their gain and their words
 pub record Logged (v w : Net) (before after : List ℕ) (log : Log) (ps : List Path) : Type 0 where
   pub successive : Successive v ps
+  pub room : RoomForEach v.graph.nodes (length before) ps
   pub value : w ≡ carried_all v ps
   pub paths : log.paths ≡ length ps
   pub gain : log.gain ≡ gain ps
@@ -42,9 +47,10 @@ pub record Bounded (v : Net) (log : Log) : Type 0 where
 abbrev pub one_more : Log → Path → Log
 one_more log p = record { paths = log.paths + 1; gain = log.gain + p.amount; words = log.words + length (path_words p) }
 
--- the path p led from v to w, and its words stand behind those of the log
+-- the path p led from v to w, and its words stand behind those of the log, where n + 2 were unused
 pub record Further (v w : Net) (before after : List ℕ) (so_far more : Log) (p : Path) : Type 0 where
   pub augmenting : Augmenting v p
+  pub room : so_far.words + (v.graph.nodes + 2) ≤ length before
   pub value : w ≡ carried v p
   pub log : more ≡ one_more so_far p
   pub fits : more.words ≤ length before

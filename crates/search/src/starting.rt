@@ -59,7 +59,7 @@ fn pass_through<N: Network>(net: &mut N, trail: &mut [u64], log: &mut Log, node:
     requires there { node < (N.Network.value net.old).graph.nodes }
     requires some { 0 < amount }
     requires least { amount ≡ min ((N.Network.value net.old).terminal Source node) ((N.Network.value net.old).terminal Sink node) }
-    requires room { log.old.words + 3 ≤ length trail.old }
+    requires room { log.old.words + ((N.Network.value net.old).graph.nodes + 2) ≤ length trail.old }
     requires bounded { Bounded (N.Network.value net.old) log.old }
     ensures further { Further (N.Network.value net.old) (N.Network.value net.new) trail.old trail.new log.old log.new (node_path node amount) }
     ensures kept { N.Network.keeps net.old net.new }

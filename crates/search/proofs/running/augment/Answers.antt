@@ -32,6 +32,7 @@ returns-clause-further g c =
       p,
       record {
         augmenting = t.augmenting;
+        room = c.requires.room;
         value = c.carry.ensures.value ∙ ap (carried v) (read_is trail log.words (omega arith) t);
         log = more;
         fits = omega (arith, few, ap (λ (x : Log). x.words) c.with.ensures);

@@ -14,10 +14,11 @@ returns-clause-further g c =
     let n = c.args.log.now.words in
     record {
       augmenting = single v u x c.requires.there c.requires.some c.requires.least;
+      room = c.requires.room;
       value = c.take_from-2.ensures.value ∙ ap (λ (w : Net). taken w Sink u x) c.take_from.ensures.value;
       log = c.with.ensures;
       fits = omega (arith, ap (λ (l : Log). l.words) c.with.ensures);
-      trail = put_behind trail _ (0 ∷ x ∷ u ∷ []) n (omega (arith, c.requires.room)) c.write_head.ensures ∙ ap (λ k. take n trail ++ ((0 ∷ x ∷ u ∷ []) ++ drop k trail)) (sym (ap (λ (l : Log). l.words) c.with.ensures));
+      trail = put_behind trail _ (0 ∷ x ∷ u ∷ []) n (omega arith) c.write_head.ensures ∙ ap (λ k. take n trail ++ ((0 ∷ x ∷ u ∷ []) ++ drop k trail)) (sym (ap (λ (l : Log). l.words) c.with.ensures));
     }
 
 pub returns-clause-kept : goal.returns-clause-kept

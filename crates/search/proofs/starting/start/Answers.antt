@@ -6,18 +6,21 @@ use Rattle.search.proofs.starting.start.Goals.{then-amount-gt0+else-is_short, el
 use Rattle.search.proofs.starting.start.Goals as goal
 
 pub amount_through-amount-requires : goal.amount_through-amount-requires
-amount_through-amount-requires g c = omega (arith, logged_nodes (g.N.Network.lawful c.args.net.now) c.loop-node.invariant.0)
+amount_through-amount-requires g c = omega (arith, logged_nodes c.loop-node.invariant.0)
 
 pub returns-then-is_short-clause-started : goal.returns-then-is_short-clause-started
 returns-then-is_short-clause-started g c =
     let v = g.N.Network.value c.loop-node.net in
     let u = c.loop-node.node in
     let x = c.amount_through-amount.result in
-    let same = logged_nodes (g.N.Network.lawful c.args.net.now) c.loop-node.invariant.0 in
+    let same = logged_nodes c.loop-node.invariant.0 in
     ((node_path u x, single v u x (omega arith) c.if-amount-gt0.true c.amount_through-amount.ensures), omega arith)
 
 pub pass_through-requires-clause-there : goal.pass_through-requires-clause-there
-pass_through-requires-clause-there g c = omega (arith, logged_nodes (g.N.Network.lawful c.args.net.now) c.loop-node.invariant.0)
+pass_through-requires-clause-there g c = omega (arith, logged_nodes c.loop-node.invariant.0)
+
+pub pass_through-requires-clause-room : goal.pass_through-requires-clause-room
+pass_through-requires-clause-room g c = omega (arith, logged_nodes c.loop-node.invariant.0)
 
 pub pass_through-requires-clause-bounded : goal.pass_through-requires-clause-bounded
 pass_through-requires-clause-bounded g c = logged_bounded (g.N.Network.lawful c.args.net.now) c.loop-node.invariant.0.1
@@ -38,5 +41,5 @@ loop-node-preserved g c =
 pub returns-clause-started : goal.returns-clause-started
 returns-clause-started g c =
     let (logged, apart, _) = c.loop-node.invariant in
-    let same = logged_nodes (g.N.Network.lawful c.args.net.now) logged in
+    let same = logged_nodes logged in
     λ u there. apart u (omega arith)
