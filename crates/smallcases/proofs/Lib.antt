@@ -5,5 +5,6 @@ pub mod Tests
 pub mod Books
 pub mod Tiles
 pub mod Subjects
+pub mod Running
 pub mod Paths
 pub mod Rows

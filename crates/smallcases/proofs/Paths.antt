@@ -15,6 +15,7 @@ use Rattle.smallcases.specs.Cases.{Besides, OnlyPath, Also}
 use Rattle.smallcases.specs.Cases.Besides.{nothing_else, only_path, short_trail}
 use Rattle.smallcases.proofs.Codes.{FewCodes}
 use Rattle.smallcases.proofs.Judging.{Judged, judged_cost}
+use Rattle.smallcases.proofs.Running.{pauses_at_once, finishes}
 
 -- v has one node and no arc, and x can be sent to the node and from it
 record OneNode (v : Net) (x : ℕ) : Type 0 where
@@ -59,12 +60,15 @@ last_path v p l (X, cheapest, is) h q left =
 one_node : (v : Net) (x : ℕ) → Lawful v → CheapestCost v x → OneNode v x → OnlyPath v (0 ∷ x ∷ 0 ∷ [])
 one_node v x l least one =
     let h = node_augmenting v x one in
+    let only : (p : Path) → Augmenting v p → p ≡ node_path x = λ p. node_only v x p one in
+    let last = last_path v (node_path x) l least h in
     record {
       path = node_path x;
       words_are = refl;
       augmenting = h;
-      only = λ p. node_only v x p one;
-      last = last_path v (node_path x) l least h;
+      only = only;
+      last = last;
+      runs = finishes v (node_path x) h only last;
     }
 
 -- whether x is the cheapest cost c of a network of one node with no code below k, and all that can be sent there
@@ -105,7 +109,10 @@ also_by_test v k c marks nothing_else few j h = tt
 also_by_test v k c marks (only_path words) few j h = only_path_by_test v k c words few (judged_cost v c marks j) h
 also_by_test v k c marks (short_trail words) few j h =
     let (some, short) = and_parts (ltb 0 c) (ltb words (v.graph.nodes + 2)) h in
+    let left = (path_left v few.lawful).1 (λ X free. omega (arith, j.least X, ltb-true 0 c some)) in
+    let less : words < v.graph.nodes + 2 = ltb-true words (v.graph.nodes + 2) short in
     record {
-      left = (path_left v few.lawful).1 (λ X free. omega (arith, j.least X, ltb-true 0 c some));
-      few = ltb-true words (v.graph.nodes + 2) short;
+      left = left;
+      few = less;
+      runs = pauses_at_once v words left less;
     }

@@ -1,10 +1,15 @@
 -- The small cases: books and tiles that can be reckoned by hand, with what the cheapest selections cost, and the marks.
-use Rattle.std.specs.Prelude.{◌≡◌, ℕ, ◌+◌, ◌<◌, List, [], ◌∷◌}
+use Rattle.std.specs.Prelude.{◌≡◌, ℕ, ◌+◌, ◌<◌, ◌≤◌, List, [], ◌∷◌, ◌++◌, length, drop, None, Ok, Result}
 use Rattle.network.specs.declared.mark.Mark.{Mark}
 use Rattle.network.specs.declared.mark.Mark.TheVariants.{In, Out, Either}
 use Rattle.network.specs.Nets.{Net}
 use Rattle.network.specs.Cuts.{CheapestCost, AllMarked}
 use Rattle.network.specs.Paths.{Path, Augmenting, carried, path_words}
+use Rattle.search.specs.declared.refusal.RunRefusal.{RunRefusal}
+use Rattle.search.specs.declared.report.Outcome.TheVariants.{Finished, Paused}
+use Rattle.search.specs.declared.report.Report.{Report}
+use Rattle.search.specs.Runs.{Lent, refused, Run}
+use Rattle.search.specs.Trails.{no_log}
 use Rattle.book.specs.Books.{Book, empty, with_entry, network_of}
 use Rattle.tile.specs.Tiles.{tile_network}
 
@@ -26,18 +31,26 @@ pub data Besides : Type 0 where
   -- a trail of so many words, too short for a run to carry out the path that is left
   short_trail : ℕ → Besides
 
--- there is one augmenting path, these are its words in a trail, and none is left after it
+-- each run of v that is lent a trail of a fitting size, and is not refused, answers the report r, and leaves the trail beginning with
+-- these words and ending as before
+abbrev pub EachRun : Net → (ℕ → Type 0) → Report → List ℕ → Type 0
+EachRun v Fits r words = (before after : Lent) (answer : Result Report RunRefusal) (w : Net) → Fits (length before.trail) → refused v.graph.nodes before ≡ None → Run v before answer w after → (answer ≡ Ok r) × (after.trail ≡ words ++ drop (length words) before.trail)
+
+-- there is one augmenting path, these are its words in a trail, and none is left after it; a run whose trail has room for it finishes
 pub record OnlyPath (v : Net) (words : List ℕ) : Type 0 where
   pub path : Path
   pub words_are : path_words path ≡ words
   pub augmenting : Augmenting v path
   pub only : (p : Path) → Augmenting v p → p ≡ path
   pub last : (p : Path) → Augmenting (carried v path) p → ⊥
+  pub runs : EachRun v (λ size. v.graph.nodes + 2 ≤ size) (record { outcome = Finished; log = record { paths = 1; gain = path.amount; words = length words } }) words
 
--- a path is left, and a trail of so many words has fewer than the n + 2 with which a run goes on
+-- a path is left, and a trail of so many words has fewer than the n + 2 with which a run goes on; so a run pauses, having carried out
+-- no path and gained nothing
 pub record TooShort (v : Net) (words : ℕ) : Type 0 where
   pub left : (p : Path) × Augmenting v p
   pub few : words < v.graph.nodes + 2
+  pub runs : EachRun v (λ size. size ≡ words) (record { outcome = Paused; log = no_log }) []
 
 abbrev pub Also : Net → Besides → Type 0
 Also v nothing_else = Unit {0}
