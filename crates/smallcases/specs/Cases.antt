@@ -1,4 +1,5 @@
--- The small cases: books and tiles that can be reckoned by hand, with what the cheapest selections cost, and the marks.
+-- The small cases: books and tiles that can be reckoned by hand, with what the cheapest selections cost, the marks, and for some
+-- what every run does.
 use Rattle.std.specs.Prelude.{◌≡◌, ℕ, ◌+◌, ◌<◌, ◌≤◌, List, [], ◌∷◌, ◌++◌, length, drop, None, Ok, Result}
 use Rattle.network.specs.declared.mark.Mark.{Mark}
 use Rattle.network.specs.declared.mark.Mark.TheVariants.{In, Out, Either}

@@ -1,4 +1,5 @@
-// The small cases: each book or tile with its cheapest cost and its marks, as theorems about the definitions.
+// The small cases: each book or tile with its cheapest cost and its marks, some with what every run does, as theorems about the
+// definitions.
 #![tactic(auto)]
 
 ghost use Rattle.std.specs.List.{AllByRecursion};
