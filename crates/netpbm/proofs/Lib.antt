@@ -1,0 +1,4 @@
+pub mod Spaces
+pub mod Digits
+pub mod Heads
+pub mod Samples
