@@ -54,7 +54,7 @@ greys-missing n m before clear few =
     rw (clear, test, fewer) refl
 
 -- values of all pixels
-greys-whole : (n m : ℕ) (before : List ℕ) → prefix_len (low m) before ≡ length before → length before ≡ n → greys_of n m before ≡ Ok (map (scaled m) before)
+pub greys-whole : (n m : ℕ) (before : List ℕ) → prefix_len (low m) before ≡ length before → length before ≡ n → greys_of n m before ≡ Ok (map (scaled m) before)
 greys-whole n m before clear whole =
     let test : nat_lt (length before) (length before) ≡ false = grind (arith, nat_tests) in
     let all : nat_lt (length before) n ≡ false = grind (arith, nat_tests) in

@@ -3,6 +3,7 @@ pub mod Blanks
 pub mod Numerals
 pub mod Headers
 pub mod Images
+pub mod Layouts
 pub mod Refusals
 pub mod Texts
 pub mod Values
