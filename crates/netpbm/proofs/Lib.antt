@@ -5,3 +5,5 @@ pub mod Samples
 -- Files, however they are laid out.
 pub mod Gaps
 pub mod Files
+-- Files of lines and tones.
+pub mod Pixels

@@ -4,6 +4,7 @@ pub mod Numerals
 pub mod Headers
 pub mod Images
 pub mod Layouts
+pub mod Bitmaps
 pub mod Refusals
 pub mod Texts
 pub mod Values

@@ -6,7 +6,9 @@ mod numbers;
 mod page;
 mod reading;
 mod refusal;
+mod writing;
 
 pub use page::{MOST_SIDE, Page};
 pub use reading::read_pgm;
 pub use refusal::ImageRefusal;
+pub use writing::write_pbm;
