@@ -47,7 +47,7 @@ gap-no_digit gap rest g = blank-no_digit gap rest g.blank g.some
     blank-no_digit gap rest (remark text e more line ends blank) some = refl
 
 -- the digits of a number
-all_digits : (ds : List ℕ) → AllDigits 10 ds → list_all is_ascii_digit ds ≡ true
+pub all_digits : (ds : List ℕ) → AllDigits 10 ds → list_all is_ascii_digit ds ≡ true
 all_digits [] digits = refl
 all_digits (d ∷ ds) (digit, digits) = rw (is_digit d digit) (all_digits ds digits)
   where

@@ -7,3 +7,4 @@ pub mod Gaps
 pub mod Files
 -- Files of lines and tones.
 pub mod Pixels
+pub mod Lines

@@ -1,7 +1,7 @@
 // Writing a page of lines and tones as a PBM file.
 ghost use Rattle.std.specs.Prelude.{◌≡◌, ◌<◌, IfOk};
 ghost use Rattle.std.specs.String.{string_bytes};
-ghost use Rattle.netpbm.specs.Bitmaps.{is_black, ends_line, pixel_text, pbm_text};
+ghost use Rattle.netpbm.specs.Bitmaps.{is_black, breaks_line, pixel_text, pixels_of, pbm_text, IsPlainPbm};
 ghost use Rattle.netpbm.specs.Values.{image_of};
 
 use super::page::Page;
@@ -18,9 +18,9 @@ fn is_black(black: &[bool], pixel: usize) -> bool
 }
 
 // Whether a line of the file ends behind a pixel, in rows of this width.
-fn ends_line(width: usize, pixel: usize) -> bool
+fn breaks_line(width: usize, pixel: usize) -> bool
     requires { 0 < width }
-    ensures { result ≡ ends_line width pixel }
+    ensures { result ≡ breaks_line width pixel }
 {
     let column = pixel % width + 1;
     column == width || column % LINE_DIGITS == 0
@@ -47,14 +47,15 @@ pub fn write_pbm(
     tiles: usize,
     energy: u64,
 ) -> Result<String, AllocError>
-    ensures { IfOk result (λ text. string_bytes text ≡ pbm_text (image_of page.now) black.now tiles energy) }
+    ensures text { IfOk result (λ text. string_bytes text ≡ pbm_text (image_of page.now) black.now tiles energy) }
+    ensures plain { IfOk result (λ text. IsPlainPbm (string_bytes text) (image_of page.now).width (image_of page.now).height (pixels_of (image_of page.now) black.now)) }
 {
     let mut text = format!(in heap;
         "P1\n# {tiles} tiles, energy {energy}\n{} {}\n",
         page.width, page.height
     )?;
     for pixel in 0..page.width * page.height {
-        text.push_str(pixel_text(is_black(black, pixel), ends_line(page.width, pixel)))?;
+        text.push_str(pixel_text(is_black(black, pixel), breaks_line(page.width, pixel)))?;
     }
     Ok(text)
 }
