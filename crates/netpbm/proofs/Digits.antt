@@ -46,7 +46,7 @@ digits_all bs =
     list_all-from_AllPass is_ascii_digit (take (digit_count bs) bs) (All-from_get_or (λ b. is_ascii_digit b ≡ true) (take (digit_count bs) bs) 0 (λ i inside. digit_within bs i (omega arith)))
 
 -- a number that a text tells, as the code holds it
-pub number_told : (bs word rest : List ℕ) (n v : ℕ) → word ≡ after_blanks false bs → n ≡ digit_count word → (length word ≡ length bs → ⊥) → (n ≡ 0 → ⊥) → v ≡ min (digits_value 10 (take n word)) (2 ^ 32 - 1) → rest ≡ drop n word → Some (record { value = v; rest = rest }) ≡ option_map capped (number_read bs)
+pub number_told : (bs word rest : List ℕ) (n v : ℕ) → word ≡ after_blanks false bs → n ≡ digit_count word → (length word ≡ length bs → ⊥) → (n ≡ 0 → ⊥) → v ≡ min (digits_value 10 (take n word)) (2 ^ 64 - 1) → rest ≡ drop n word → Some (record { value = v; rest = rest }) ≡ option_map capped (number_read bs)
 number_told bs word rest n v is count shorter some value behind =
     let few = length-blanks-le false bs in
     let test : (nat_lt (length (after_blanks false bs)) (length bs) && nat_lt 0 (digit_count (after_blanks false bs))) ≡ true = grind (arith, nat_tests) in

@@ -92,7 +92,7 @@ held-none None is = refl
 
 held-small : (s m : Numeral) → capped s ≡ m → m.value ≤ 255 → s ≡ m
 held-small s m is small =
-    let value : s.value ≡ min s.value (2 ^ 32 - 1) = omega (arith, ap (λ (n : Numeral). n.value) is) in
+    let value : s.value ≡ min s.value (2 ^ 64 - 1) = omega (arith, ap (λ (n : Numeral). n.value) is) in
     ap (λ v. record { value = v; rest = s.rest }) value ∙ is
 
 -- one more

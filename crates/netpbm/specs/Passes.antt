@@ -15,7 +15,7 @@ numeral_of n = record { value = n.value; rest = n.rest.now }
 
 -- a number as the code holds it: one that is too large for it is the largest that it can hold
 abbrev pub capped : Numeral → Numeral
-capped n = record { value = min n.value (2 ^ 32 - 1); rest = n.rest }
+capped n = record { value = min n.value (2 ^ 64 - 1); rest = n.rest }
 
 -- the header that the code holds, or the refusal
 abbrev pub the_header : TheHeader → Header

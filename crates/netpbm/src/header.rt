@@ -8,8 +8,11 @@ use super::numbers::{is_space, number_to};
 use super::page::MOST_SIDE;
 use super::refusal::ImageRefusal;
 
+// How many bytes tell a file's form.
+const FORM_BYTES: usize = 2;
+
 // The largest value that a file may tell.
-const MOST_LARGEST: u32 = 255;
+const MOST_LARGEST: usize = 255;
 
 // How greys stand in a file: each as a byte, or as a decimal number.
 #[derive(Clone, Copy, PartialEq, Eq, Debug)]
@@ -24,7 +27,7 @@ pub(crate) struct Header<'a> {
     pub(crate) width: usize,
     pub(crate) height: usize,
     // the largest value that a grey may have, which stands for white
-    pub(crate) largest: u32,
+    pub(crate) largest: usize,
     // what stands behind the header: the greys, and maybe more
     pub(crate) raster: &'a [u8],
 }
@@ -58,14 +61,14 @@ pub(crate) fn read_header(input: &[u8]) -> Result<Header<'_>, ImageRefusal>
     ensures { header_told result ≡ header_read input.now }
 {
     let form = form_of(input).ok_or(ImageRefusal::NotPgm)?;
-    let width = number_to(MOST_SIDE as u32, &input[2..]).ok_or(ImageRefusal::SizeRange)?;
-    let height = number_to(MOST_SIDE as u32, width.rest).ok_or(ImageRefusal::SizeRange)?;
+    let width = number_to(MOST_SIDE, &input[FORM_BYTES..]).ok_or(ImageRefusal::SizeRange)?;
+    let height = number_to(MOST_SIDE, width.rest).ok_or(ImageRefusal::SizeRange)?;
     let largest = number_to(MOST_LARGEST, height.rest).ok_or(ImageRefusal::LargestRange)?;
     let raster = raster_behind(form, largest.rest).ok_or(ImageRefusal::LargestRange)?;
     Ok(Header {
         form,
-        width: width.value as usize,
-        height: height.value as usize,
+        width: width.value,
+        height: height.value,
         largest: largest.value,
         raster,
     })

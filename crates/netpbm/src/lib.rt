@@ -6,6 +6,8 @@ mod numbers;
 mod page;
 mod reading;
 mod refusal;
+#[cfg(test)]
+mod tests;
 mod writing;
 
 pub use page::{MOST_SIDE, Page};

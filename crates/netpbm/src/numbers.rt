@@ -12,7 +12,7 @@ ghost use Rattle.netpbm.specs.Passes.{numeral_of, capped};
 #[derive(Clone, Copy, Debug)]
 pub(crate) struct Number<'a> {
     // the largest that there is, where it is larger
-    pub(crate) value: u32,
+    pub(crate) value: usize,
     pub(crate) rest: &'a [u8],
 }
 
@@ -20,14 +20,14 @@ pub(crate) struct Number<'a> {
 pub(crate) fn is_space(byte: u8) -> bool
     ensures { result ≡ is_space byte }
 {
-    byte == b' ' || (byte >= b'\t' && byte <= b'\r')
+    matches!(byte, b' ' | b'\t'..=b'\r')
 }
 
 // Whether a byte ends a remark.
 fn ends_line(byte: u8) -> bool
     ensures { result ≡ ends_line byte }
 {
-    byte == b'\n' || byte == b'\r'
+    matches!(byte, b'\n' | b'\r')
 }
 
 // Whether a byte is of a remark, or may stand before a number.
@@ -63,15 +63,15 @@ fn after_blanks(text: &[u8]) -> &[u8]
 }
 
 // The number that digits write, or the largest that there is.
-fn value_of(digits: &[u8]) -> u32
+fn value_of(digits: &[u8]) -> usize
     requires { list_all is_ascii_digit digits.now ≡ true }
-    ensures { result ≡ min (digits_value 10 digits.now) (2 ^ 32 - 1) }
+    ensures { result ≡ min (digits_value 10 digits.now) (2 ^ 64 - 1) }
 {
-    let mut value: u32 = 0;
+    let mut value: usize = 0;
     for digit in digits {
         value = value
             .saturating_mul(10)
-            .saturating_add(u32::from(*digit - b'0'));
+            .saturating_add(usize::from(*digit - b'0'));
     }
     value
 }
@@ -100,9 +100,9 @@ pub(crate) fn next_number(text: &[u8]) -> Option<Number<'_>>
 }
 
 // The same, where it is from 1 to `most`.
-pub(crate) fn number_to(most: u32, text: &[u8]) -> Option<Number<'_>>
-    requires { most < 2 ^ 32 - 1 }
+pub(crate) fn number_to(most: usize, text: &[u8]) -> Option<Number<'_>>
+    requires { most < 2 ^ 64 - 1 }
     ensures { option_map numeral_of result ≡ number_to most text.now }
 {
-    next_number(text).filter(|number| number.value >= 1 && number.value <= most)
+    next_number(text).filter(|number| (1..=most).contains(&number.value))
 }

@@ -19,14 +19,14 @@ fn next_sample(form: Form, raster: &[u8]) -> Option<Number<'_>>
     match form {
         Form::Plain => next_number(raster),
         Form::Raw => raster.split_first().map(|(byte, rest)| Number {
-            value: u32::from(*byte),
+            value: usize::from(*byte),
             rest,
         }),
     }
 }
 
 // A value as a grey, where the largest value stands for white.
-fn grey(value: u32, largest: u32) -> u8
+fn grey(value: usize, largest: usize) -> u8
     requires some { 1 ≤ largest }
     requires few { largest ≤ 255 }
     requires within { value ≤ largest }
