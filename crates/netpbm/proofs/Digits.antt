@@ -26,10 +26,7 @@ digit_worth b digit =
 pub digit_at : (ds : List ℕ) (i : ℕ) → i < length ds → list_all is_ascii_digit ds ≡ true → is_ascii_digit (get_or ds i 0) ≡ true
 digit_at ds i inside all = grind (arith, list_all_at is_ascii_digit ds i 0 inside)
 
--- a digit more of a number that is capped
-capped_more : (m v d : ℕ) → min (min (min v m * 10) m + d) m ≡ min (v * 10 + d) m
-capped_more m v d = omega arith
-
+-- a digit more of a number that is capped at m
 pub digit_more : (m : ℕ) (ds : List ℕ) (i v w d : ℕ) → i < length ds → list_all is_ascii_digit ds ≡ true → v ≡ min (digits_value 10 (take i ds)) m → d ≡ get_or ds i 0 - 48 → w ≡ min (min (v * 10) m + d) m → w ≡ min (digits_value 10 (take (i + 1) ds)) m
 digit_more m ds i v w d inside all is here next =
     let worth = digit_worth (get_or ds i 0) (digit_at ds i inside all) in

@@ -1,36 +1,34 @@
 -- Files that are laid out from an image, and read as it.
-use Rattle.std.proofs.Common.{◌≡◌, true, ℕ, suc, ◌*◌, ◌/◌, ◌≤◌, List, [], ◌∷◌, ◌++◌, map, length, take, replicate, codes, decimal, Some, Ok, Result, refl, sym, ap, ◌∙◌, append_assoc, arith, lit<, zero}
-use Rattle.std.specs.List.{AllByRecursion, prefix_len}
+use Rattle.std.proofs.Common.{◌≡◌, true, ℕ, ◌*◌, ◌≤◌, List, [], ◌∷◌, ◌++◌, map, length, take, Some, Ok, refl, sym, ap, ◌∙◌, append_assoc, arith, drop, ⊎_elim}
+use Rattle.std.specs.List.{AllByRecursion, prefix_len, flat_map}
 use Rattle.std.specs.Option.{option_map_or}
 use Rattle.std.proofs.Math.Seq.{take-append_seam}
 use Rattle.std.proofs.lemmas.Bool.Decides.{nat_tests}
 use Rattle.netpbm.specs.declared.header.Form.{Form}
 use Rattle.netpbm.specs.declared.header.Form.TheVariants.{Raw, Plain}
-use Rattle.netpbm.specs.declared.refusal.ImageRefusal.{ImageRefusal}
 use Rattle.netpbm.specs.Blanks.{is_space}
-use Rattle.netpbm.specs.Numerals.{Numeral, digit_count, number_read}
+use Rattle.netpbm.specs.Numerals.{Numeral, digit_count, number_read, number_to}
 use Rattle.netpbm.specs.Headers.{Header, form_of, raster_behind, header_read}
 use Rattle.netpbm.specs.Images.{Image, then, numbers, values, greys_of, greys_read, image_read}
-use Rattle.netpbm.specs.Layouts.{IsGap, Layout, IsLayout, IsImage, brightened, header_text, raw_file, plain_file, IsAnswered, usual, ReadsBack, raster_text}
+use Rattle.netpbm.specs.Layouts.{Word, word_bytes, AllTell, Layout, file_bytes, IsImage, IsHeader, IsRawFile, IsPlainFile, IsFile, brightened}
 use Rattle.netpbm.proofs.Heads.{parts_read}
 use Rattle.netpbm.proofs.Samples.{low, scaled, greys-whole}
-use Rattle.netpbm.proofs.Gaps.{gap-no_digit, number-gap, number_to-gap, space-no_digit}
-use Rattle.std.proofs.lemmas.List.{length-replicate}
-use Rattle.netpbm.specs.Layouts.IsBlank.{space, nothing}
+use Rattle.netpbm.proofs.Gaps.{word-read, word-within, word-no_digit, space-no_digit}
 
--- a header that is laid out is read
-header_laid : (a b : ℕ) (form : Form) (l : Layout) (m : ℕ) (i : Image) (rest raster : List ℕ) → IsLayout l → IsImage m i → form_of (header_text (a ∷ b ∷ []) l m i rest) ≡ Some form → digit_count rest ≡ 0 → raster_behind form rest ≡ Some raster → header_read (header_text (a ∷ b ∷ []) l m i rest) ≡ Ok (record { form = form; width = i.width; height = i.height; largest = m; raster = raster })
-header_laid a b form l m i rest raster laid image form_is stop raster_is =
-    let behind_height = l.largest ++ (decimal m ++ rest) in
-    let behind_width = l.height ++ (decimal i.height ++ behind_height) in
-    parts_read (header_text (a ∷ b ∷ []) l m i rest) (record { form = form; width = i.width; height = i.height; largest = m; raster = raster }) (record {
+-- the header of a file is read
+header_laid : (l : Layout) (form : Form) (a b : ℕ) (m : ℕ) (i : Image) (raster : List ℕ) → IsHeader l m i → l.form ≡ a ∷ b ∷ [] → form_of (a ∷ b ∷ []) ≡ Some form → digit_count l.rest ≡ 0 → raster_behind form l.rest ≡ Some raster → header_read (file_bytes l) ≡ Ok (record { form = form; width = i.width; height = i.height; largest = m; raster = raster })
+header_laid l form a b m i raster header bytes form_is stop raster_is =
+    let behind_height = word_bytes l.largest ++ l.rest in
+    let behind_width = word_bytes l.height ++ behind_height in
+    let within = header.image.within in
+    parts_read (file_bytes l) (record { form = form; width = i.width; height = i.height; largest = m; raster = raster }) (record {
       width_rest = behind_width;
       height_rest = behind_height;
-      largest_rest = rest;
-      form = form_is;
-      width = number_to-gap 16384 l.width behind_width i.width laid.width image.within.some_columns image.within.few_columns (lit< tt) (gap-no_digit l.height _ laid.height);
-      height = number_to-gap 16384 l.height behind_height i.height laid.height image.within.some_rows image.within.few_rows (lit< tt) (gap-no_digit l.largest _ laid.largest);
-      largest = number_to-gap 255 l.largest rest m laid.largest image.some_largest image.few_largest (lit< tt) stop;
+      largest_rest = l.rest;
+      form = ap (λ front. form_of (front ++ (word_bytes l.width ++ behind_width))) bytes ∙ form_is;
+      width = ap (λ front. number_to 16384 (drop 2 (front ++ (word_bytes l.width ++ behind_width)))) bytes ∙ word-within 16384 l.width i.width behind_width header.width within.some_columns within.few_columns (word-no_digit l.height i.height behind_height header.height);
+      height = word-within 16384 l.height i.height behind_height header.height within.some_rows within.few_rows (word-no_digit l.largest m l.rest header.largest);
+      largest = word-within 255 l.largest m l.rest header.largest header.image.some_largest header.image.few_largest stop;
       raster = raster_is;
     })
 
@@ -56,65 +54,35 @@ space-behind : (s : ℕ) (bs : List ℕ) → is_space s ≡ true → raster_behi
 space-behind s bs is = rw is refl
 
 -- a raw file
-pub raw_laid : (l : Layout) (m : ℕ) (i : Image) (s : ℕ) (rest : List ℕ) → IsLayout l → IsImage m i → is_space s ≡ true → image_read (raw_file l m i s rest) ≡ Ok (brightened m i)
-raw_laid l m i s rest laid image white =
-    let header = header_laid 80 53 Raw l m i (s ∷ (i.greys ++ rest)) (i.greys ++ rest) laid image refl (space-stops s (i.greys ++ rest) white) (space-behind s (i.greys ++ rest) white) in
-    image_laid (raw_file l m i s rest) (i.greys ++ rest) Raw m i image header (ap (λ n. take n (i.greys ++ rest)) (sym image.within.whole) ∙ take-append_seam i.greys rest)
+raw_laid : (l : Layout) (m : ℕ) (i : Image) → IsRawFile l m i → image_read (file_bytes l) ≡ Ok (brightened m i)
+raw_laid l m i file =
+    let raster = i.greys ++ file.others in
+    let header = header_laid l Raw 80 53 m i raster file.header file.form refl (ap digit_count file.raster ∙ space-stops file.space raster file.white) (ap (raster_behind Raw) file.raster ∙ space-behind file.space raster file.white) in
+    image_laid (file_bytes l) raster Raw m i file.header.image header (ap (λ n. take n raster) (sym file.header.image.within.whole) ∙ take-append_seam i.greys file.others)
 
--- the raster of a plain file: its first value, and the others
-value_first : (g : List ℕ) (gaps : List (List ℕ)) (v : ℕ) (vs rest : List ℕ) → raster_text (g ∷ gaps) (v ∷ vs) ++ rest ≡ g ++ (decimal v ++ (raster_text gaps vs ++ rest))
-value_first g gaps v vs rest = simp append_assoc
+-- the raster of a plain file
+words-no_digit : (words : List Word) (vs others : List ℕ) → AllTell words vs → digit_count others ≡ 0 → digit_count (flat_map word_bytes words ++ others) ≡ 0
+words-no_digit [] vs others told stop = stop
+words-no_digit (w ∷ ws) [] others told stop = absurd told
+words-no_digit (w ∷ ws) (v ∷ vs) others (tells, told) stop = ap digit_count (append_assoc (word_bytes w) (flat_map word_bytes ws) others) ∙ word-no_digit w v (flat_map word_bytes ws ++ others) tells
 
-raster-no_digit : (gaps : List (List ℕ)) (vs rest : List ℕ) → AllByRecursion IsGap gaps → digit_count rest ≡ 0 → digit_count (raster_text gaps vs ++ rest) ≡ 0
-raster-no_digit [] vs rest are stop = stop
-raster-no_digit (g ∷ gaps) [] rest are stop = stop
-raster-no_digit (g ∷ gaps) (v ∷ vs) rest (gap, are) stop = ap digit_count (value_first g gaps v vs rest) ∙ gap-no_digit g (decimal v ++ (raster_text gaps vs ++ rest)) gap
-
-numbers_laid : (m : ℕ) (gaps : List (List ℕ)) (vs rest : List ℕ) → m ≤ 255 → AllByRecursion IsGap gaps → length gaps ≡ length vs → AllByRecursion (λ v. v ≤ m) vs → digit_count rest ≡ 0 → numbers (length vs) (raster_text gaps vs ++ rest) ≡ vs
+numbers_laid : (words : List Word) (vs others : List ℕ) → AllTell words vs → digit_count others ≡ 0 → numbers (length vs) (flat_map word_bytes words ++ others) ≡ vs
 unfolding numbers
-numbers_laid m gaps [] rest small are many few stop = refl
-numbers_laid m [] (v ∷ vs) rest small are many few stop = absurd (omega arith)
-numbers_laid m (g ∷ gaps) (v ∷ vs) rest small (gap, are) many (here, few) stop =
-    let behind = raster_text gaps vs ++ rest in
-    let first = ap number_read (value_first g gaps v vs rest) ∙ number-gap g behind v gap (omega arith) (raster-no_digit gaps vs rest are stop) in
-    ap (λ o. option_map_or (λ (n : Numeral). n.value ∷ numbers (length vs) n.rest) o []) first ∙ ap (λ ws. v ∷ ws) (numbers_laid m gaps vs rest small are (omega arith) few stop)
+numbers_laid words [] others told stop = refl
+numbers_laid [] (v ∷ vs) others told stop = absurd told
+numbers_laid (w ∷ ws) (v ∷ vs) others (tells, told) stop =
+    let behind = flat_map word_bytes ws ++ others in
+    let first = ap number_read (append_assoc (word_bytes w) (flat_map word_bytes ws) others) ∙ word-read w v behind tells (words-no_digit ws vs others told stop) in
+    ap (λ o. option_map_or (λ (n : Numeral). n.value ∷ numbers (length vs) n.rest) o []) first ∙ ap (λ ns. v ∷ ns) (numbers_laid ws vs others told stop)
 
-pub plain_laid : (l : Layout) (m : ℕ) (i : Image) (gaps : List (List ℕ)) (rest : List ℕ) → IsLayout l → IsImage m i → AllByRecursion IsGap gaps → length gaps ≡ length i.greys → digit_count rest ≡ 0 → image_read (plain_file l m i gaps rest) ≡ Ok (brightened m i)
-plain_laid l m i gaps rest laid image are many stop =
-    let raster = raster_text gaps i.greys ++ rest in
-    let header = header_laid 80 50 Plain l m i raster raster laid image refl (raster-no_digit gaps i.greys rest are stop) refl in
-    image_laid (plain_file l m i gaps rest) raster Plain m i image header (ap (λ n. numbers n raster) (sym image.within.whole) ∙ numbers_laid m gaps i.greys rest image.few_largest are many image.values stop)
+-- a plain file
+plain_laid : (l : Layout) (m : ℕ) (i : Image) → IsPlainFile l m i → image_read (file_bytes l) ≡ Ok (brightened m i)
+plain_laid l m i file =
+    let raster = flat_map word_bytes file.words ++ file.others in
+    let image = file.header.image in
+    let header = header_laid l Plain 80 50 m i raster file.header file.form refl (ap digit_count file.raster ∙ words-no_digit file.words i.greys file.others file.told file.ended) (ap Some file.raster) in
+    image_laid (file_bytes l) raster Plain m i image header (ap (λ n. numbers n raster) (sym image.within.whole) ∙ numbers_laid file.words i.greys file.others file.told file.ended)
 
--- what is read of a file is the image that it was laid out from
-pub answered : (bs : List ℕ) (r : Result Image ImageRefusal) → r ≡ image_read bs → IsAnswered bs r
-answered bs r is = record {
-  raw = λ l m i s rest laid image white whole. is ∙ (ap image_read whole ∙ raw_laid l m i s rest laid image white);
-  plain = λ l m i gaps rest laid image are many stop whole. is ∙ (ap image_read whole ∙ plain_laid l m i gaps rest laid image are many stop);
-}
-
--- and so for files that are laid out as usual
-line_feed-gap : IsGap (codes "\n")
-line_feed-gap = record { blank = space refl nothing; some = lit< tt }
-
-usual-layout : IsLayout usual
-usual-layout = record { width = line_feed-gap; height = record { blank = space refl nothing; some = lit< tt }; largest = line_feed-gap }
-
-same-white : (i : Image) → brightened 255 i ≡ i
-same-white i = ap (λ gs. record { width = i.width; height = i.height; greys = gs }) (same-greys i.greys)
-  where
-    same-grey : (v : ℕ) → v * 255 / 255 ≡ v
-    same-grey v = omega arith
-
-    same-greys : (vs : List ℕ) → map (λ v. v * 255 / 255) vs ≡ vs
-    same-greys [] = refl
-    same-greys (v ∷ vs) = rw (same-grey v, same-greys vs) refl
-
-line_feed-gaps : (n : ℕ) → AllByRecursion IsGap (replicate n (codes "\n"))
-line_feed-gaps zero = tt
-line_feed-gaps (suc n) = (line_feed-gap, line_feed-gaps n)
-
-pub reads_back : (bs : List ℕ) (r : Result Image ImageRefusal) → r ≡ image_read bs → ReadsBack bs r
-reads_back bs r is = let answers = answered bs r is in record {
-  raw = λ i image whole. answers.raw usual 255 i 10 [] usual-layout image refl whole ∙ ap Ok (same-white i);
-  plain = λ i image whole. answers.plain usual 255 i (replicate (length i.greys) (codes "\n")) (codes "\n") usual-layout image (line_feed-gaps (length i.greys)) (length-replicate (length i.greys) (codes "\n")) refl whole ∙ ap Ok (same-white i);
-}
+-- what is read of a file is its image
+pub file_read : (bs : List ℕ) (m : ℕ) (i : Image) → IsFile bs m i → image_read bs ≡ Ok (brightened m i)
+file_read bs m i file = ap image_read file.whole ∙ ⊎_elim (raw_laid file.layout m i) (plain_laid file.layout m i) file.form

@@ -1,15 +1,14 @@
 -- Gaps between numbers, and the numbers behind them.
-use Rattle.std.proofs.Common.{◌≡◌, Bool, true, false, ℕ, ◌^◌, ◌<◌, ◌≤◌, List, [], ◌∷◌, ◌++◌, length, take, drop, decimal, Some, refl, ap, ◌∙◌, append_assoc, arith, ◌&&◌, nat_lt, nat_le, cond, None}
+use Rattle.std.proofs.Common.{◌≡◌, Bool, true, false, ℕ, ◌<◌, ◌≤◌, List, [], ◌∷◌, ◌++◌, length, take, drop, Some, refl, ap, ◌∙◌, append_assoc, arith, ◌&&◌, nat_lt, nat_le, cond, None}
 use Rattle.std.specs.Char.{is_ascii_digit, digit_value}
 use Rattle.std.specs.List.{AllByRecursion, list_all, prefix_len}
 use Rattle.std.proofs.lemmas.Bool.Decides.{nat_tests}
 use Rattle.netpbm.specs.Blanks.{is_space, ends_line, is_blank, remark_after, after_blanks}
 use Rattle.netpbm.specs.Numerals.{digit_count, number_read, within, number_to}
-use Rattle.netpbm.specs.Layouts.{IsBlank, IsGap}
+use Rattle.netpbm.specs.Layouts.{IsBlank, IsGap, Word, word_bytes, Tells}
 use Rattle.netpbm.specs.Layouts.IsBlank.{nothing, space, remark}
 use Rattle.netpbm.proofs.Spaces.{blanks-yes, blanks-no}
 use Rattle.std.specs.Str.Parse.{digits_value, AllDigits}
-use Rattle.std.proofs.lemmas.Fmt.{decimal_is_IsNumeral}
 use Rattle.std.proofs.lemmas.Str.Parse.{digit_from_value}
 use Rattle.std.proofs.lemmas.List.Folds.{prefix_len-append}
 use Rattle.std.proofs.lemmas.Bool.{and_parts}
@@ -88,14 +87,16 @@ digits-gap gap (d ∷ ds) rest g digits some stop =
     digit-no_blank : (d : ℕ) → is_ascii_digit d ≡ true → is_blank false d ≡ false
     digit-no_blank d digit = grind (arith, nat_tests)
 
--- a number behind a gap
-pub number-gap : (gap rest : List ℕ) (n : ℕ) → IsGap gap → n < 2 ^ 64 → digit_count rest ≡ 0 → number_read (gap ++ (decimal n ++ rest)) ≡ Some (record { value = n; rest = rest })
-number-gap gap rest n g small stop =
-    let ((some, digits), value) = decimal_is_IsNumeral n small in
-    digits-gap gap (decimal n) rest g (all_digits (decimal n) digits) some stop ∙ ap (λ v. Some (record { value = v; rest = rest })) value
+-- a number that a word tells
+pub word-read : (w : Word) (n : ℕ) (rest : List ℕ) → Tells w n → digit_count rest ≡ 0 → number_read (word_bytes w ++ rest) ≡ Some (record { value = n; rest = rest })
+word-read w n rest tells stop = ap number_read (append_assoc w.gap w.digits rest) ∙ (digits-gap w.gap w.digits rest tells.apart tells.decimal tells.some stop ∙ ap (λ v. Some (record { value = v; rest = rest })) tells.value)
 
 -- and within limits
-pub number_to-gap : (most : ℕ) (gap rest : List ℕ) (n : ℕ) → IsGap gap → 1 ≤ n → n ≤ most → most < 2 ^ 64 → digit_count rest ≡ 0 → number_to most (gap ++ (decimal n ++ rest)) ≡ Some (record { value = n; rest = rest })
-number_to-gap most gap rest n g low high small stop =
+pub word-within : (most : ℕ) (w : Word) (n : ℕ) (rest : List ℕ) → Tells w n → 1 ≤ n → n ≤ most → digit_count rest ≡ 0 → number_to most (word_bytes w ++ rest) ≡ Some (record { value = n; rest = rest })
+word-within most w n rest tells low high stop =
     let test : (nat_le 1 n && nat_le n most) ≡ true = grind (arith, nat_tests) in
-    ap (option_and_then (within most)) (number-gap gap rest n g (omega arith) stop) ∙ ap (λ t. cond t (Some (record { value = n; rest = rest })) None) test
+    ap (option_and_then (within most)) (word-read w n rest tells stop) ∙ ap (λ t. cond t (Some (record { value = n; rest = rest })) None) test
+
+-- a word begins with no digit
+pub word-no_digit : (w : Word) (n : ℕ) (rest : List ℕ) → Tells w n → digit_count (word_bytes w ++ rest) ≡ 0
+word-no_digit w n rest tells = ap digit_count (append_assoc w.gap w.digits rest) ∙ gap-no_digit w.gap (w.digits ++ rest) tells.apart

@@ -55,16 +55,31 @@ number-bounds most bs n is = number-cases (number_read bs) is
     number-cases None is = cc
     number-cases (Some m) is = within-some most m n is
 
--- and so are the numbers of a header
-pub header_bounded : (bs : List ℕ) (h : Header) → header_read bs ≡ Ok h → Bounded h
-header_bounded bs h is =
+-- a header that was read has its parts
+pub parts_found : (bs : List ℕ) (h : Header) → header_read bs ≡ Ok h → Parts bs h
+parts_found bs h is =
     let (form, has_form, read_form) = asked-ok (form_of bs) NotPgm _ h is in
     let (width, has_width, read_width) = asked-ok (number_to 16384 (drop 2 bs)) SizeRange _ h read_form in
     let (height, has_height, read_height) = asked-ok (number_to 16384 width.rest) SizeRange _ h read_width in
     let (largest, has_largest, read_largest) = asked-ok (number_to 255 height.rest) LargestRange _ h read_height in
     let (raster, has_raster, read_raster) = asked-ok (raster_behind form largest.rest) LargestRange _ h read_largest in
-    let w = number-bounds 16384 (drop 2 bs) width has_width in
-    let v = number-bounds 16384 width.rest height has_height in
-    let m = number-bounds 255 height.rest largest has_largest in
     let same : record { form = form; width = width.value; height = height.value; largest = largest.value; raster = raster } ≡ h = cc in
-    subst Bounded same (record { some_columns = w.0; few_columns = w.1; some_rows = v.0; few_rows = v.1; some_largest = m.0; few_largest = m.1 })
+    subst (Parts bs) same (record {
+      width_rest = width.rest;
+      height_rest = height.rest;
+      largest_rest = largest.rest;
+      form = has_form;
+      width = has_width;
+      height = has_height;
+      largest = has_largest;
+      raster = has_raster;
+    })
+
+-- and its numbers are within limits
+pub header_bounded : (bs : List ℕ) (h : Header) → header_read bs ≡ Ok h → Bounded h
+header_bounded bs h is =
+    let p = parts_found bs h is in
+    let w = number-bounds 16384 (drop 2 bs) (record { value = h.width; rest = p.width_rest }) p.width in
+    let v = number-bounds 16384 p.width_rest (record { value = h.height; rest = p.height_rest }) p.height in
+    let m = number-bounds 255 p.height_rest (record { value = h.largest; rest = p.largest_rest }) p.largest in
+    record { some_columns = w.0; few_columns = w.1; some_rows = v.0; few_rows = v.1; some_largest = m.0; few_largest = m.1 }

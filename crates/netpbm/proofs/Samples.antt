@@ -12,6 +12,7 @@ use Rattle.netpbm.specs.Numerals.{Numeral, number_read}
 use Rattle.netpbm.specs.Headers.{Header}
 use Rattle.netpbm.specs.Images.{numbers, values, greys_of, greys_read}
 use Rattle.netpbm.specs.Passes.{sample, capped}
+use Rattle.std.proofs.lemmas.List.Sums.{prefix_len-le-length}
 
 -- the values of a raster are its first one, and those of what stands behind it
 pub values_sample : (form : Form) (n : ℕ) (bs : List ℕ) → values form (suc n) bs ≡ option_map_or (λ m. m.value ∷ values form n m.rest) (sample form bs) []
@@ -71,9 +72,6 @@ pub record GreysRead (h : Header) (k : ℕ) (rest gs : List ℕ) : Type 0 where
   pub size : length before ≡ k
   pub clear : prefix_len (low h.largest) before ≡ length before
   pub greys : gs ≡ map (scaled h.largest) before
-
-pub greys_none : (h : Header) (gs : List ℕ) → gs ≡ [] → GreysRead h 0 h.raster gs
-greys_none h gs none = record { before = []; whole = ap (λ n. values h.form n h.raster) (omega arith); size = refl; clear = refl; greys = none }
 
 -- the values from pixel k on
 ahead : (h : Header) (k : ℕ) (rest : List ℕ) (o : Option Numeral) → k < count h → sample h.form rest ≡ o → values h.form (count h - k) rest ≡ option_map_or (λ m. m.value ∷ values h.form (count h - (k + 1)) m.rest) o []
@@ -145,17 +143,24 @@ length-values-le : (form : Form) (n : ℕ) (bs : List ℕ) → length (values fo
 length-values-le Plain n bs = length-numbers-le n bs
 length-values-le Raw n bs = omega (arith, length-take n bs)
 
--- and so a grey for each
-length-greys_of : (n m : ℕ) (vs gs : List ℕ) → length vs ≤ n → greys_of n m vs ≡ Ok gs → length gs ≡ n
-length-greys_of n m vs gs few is = tests (nat_lt (prefix_len (low m) vs) (length vs)) (nat_lt (length vs) n) refl is
+-- where greys came, there is a value for each pixel, none above m
+pub greys_of-ok : (n m : ℕ) (vs gs : List ℕ) → greys_of n m vs ≡ Ok gs → (prefix_len (low m) vs ≡ length vs) × (n ≤ length vs) × (gs ≡ map (scaled m) vs)
+greys_of-ok n m vs gs is = tests (nat_lt (prefix_len (low m) vs) (length vs)) (nat_lt (length vs) n) refl refl is
   where
-    tests : (above fewer : Bool) → nat_lt (length vs) n ≡ fewer → cond above (Err (AboveLargest (prefix_len (low m) vs))) (cond fewer (Err (NoGrey (length vs))) (Ok (map (scaled m) vs))) ≡ Ok gs → length gs ≡ n
-    tests true fewer enough is = cc
-    tests false true enough is = cc
-    tests false false enough is =
-        let whole : n ≤ length vs = grind (arith, nat_tests) in
-        let same : map (scaled m) vs ≡ gs = cc in
-        omega (arith, ap length same, length-map vs (scaled m))
+    tests : (above fewer : Bool) → nat_lt (prefix_len (low m) vs) (length vs) ≡ above → nat_lt (length vs) n ≡ fewer → cond above (Err (AboveLargest (prefix_len (low m) vs))) (cond fewer (Err (NoGrey (length vs))) (Ok (map (scaled m) vs))) ≡ Ok gs → (prefix_len (low m) vs ≡ length vs) × (n ≤ length vs) × (gs ≡ map (scaled m) vs)
+    tests true fewer none enough is = cc
+    tests false true none enough is = cc
+    tests false false none enough is =
+        let few = prefix_len-le-length (low m) vs in
+        (grind (arith, nat_tests), grind (arith, nat_tests), cc)
 
+pub length-values : (h : Header) (gs : List ℕ) → greys_read h ≡ Ok gs → length (values h.form (count h) h.raster) ≡ count h
+length-values h gs is =
+    let all = greys_of-ok (count h) h.largest (values h.form (count h) h.raster) gs is in
+    omega (arith, all.1, length-values-le h.form (count h) h.raster)
+
+-- and so a grey for each
 pub length-greys : (h : Header) (gs : List ℕ) → greys_read h ≡ Ok gs → length gs ≡ count h
-length-greys h gs is = length-greys_of (count h) h.largest (values h.form (count h) h.raster) gs (length-values-le h.form (count h) h.raster) is
+length-greys h gs is =
+    let all = greys_of-ok (count h) h.largest (values h.form (count h) h.raster) gs is in
+    ap length all.2 ∙ (length-map (values h.form (count h) h.raster) (scaled h.largest) ∙ length-values h gs is)

@@ -1,6 +1,8 @@
--- How an image may stand in a PGM file, and what is promised of it.
-use Rattle.std.specs.Prelude.{◌≡◌, ℕ, ◌*◌, ◌/◌, ◌<◌, ◌≤◌, true, false, List, [], ◌∷◌, ◌++◌, map, length, replicate, codes, decimal, Ok, Result}
-use Rattle.std.specs.List.{AllByRecursion, flat_map, zip}
+-- How an image may stand in a PGM file, and what is promised of one that is read.
+use Rattle.std.specs.Prelude.{◌≡◌, ℕ, ◌*◌, ◌/◌, ◌<◌, ◌≤◌, true, false, List, [], ◌∷◌, ◌++◌, map, length, codes, decimal, Ok, Result, IfOk, ◌⊎◌, ⊤}
+use Rattle.std.specs.Char.{is_ascii_digit}
+use Rattle.std.specs.List.{AllByRecursion, list_all, flat_map}
+use Rattle.std.specs.Str.Parse.{digits_value}
 use Rattle.netpbm.specs.declared.refusal.ImageRefusal.{ImageRefusal}
 use Rattle.netpbm.specs.Blanks.{is_space, ends_line}
 use Rattle.netpbm.specs.Numerals.{digit_count}
@@ -17,16 +19,38 @@ pub record IsGap (bs : List ℕ) : Type 0 where
   pub blank : IsBlank bs
   pub some : 0 < length bs
 
--- the gaps before the three numbers of a header
-pub record Layout : Type 0 where
-  pub width : List ℕ
-  pub height : List ℕ
-  pub largest : List ℕ
+-- a number as it stands in a file: a gap, and its digits
+pub record Word : Type 0 where
+  pub gap : List ℕ
+  pub digits : List ℕ
 
-pub record IsLayout (l : Layout) : Type 0 where
-  pub width : IsGap l.width
-  pub height : IsGap l.height
-  pub largest : IsGap l.largest
+abbrev pub word_bytes : Word → List ℕ
+word_bytes w = w.gap ++ w.digits
+
+-- it tells n; zeros may stand in front
+pub record Tells (w : Word) (n : ℕ) : Type 0 where
+  pub apart : IsGap w.gap
+  pub some : 0 < length w.digits
+  pub decimal : list_all is_ascii_digit w.digits ≡ true
+  pub value : digits_value 10 w.digits ≡ n
+
+-- these tell the numbers, one each
+abbrev pub AllTell : List Word → List ℕ → Type 0
+AllTell [] [] = ⊤
+AllTell (w ∷ ws) (n ∷ ns) = Tells w n × AllTell ws ns
+AllTell [] (n ∷ ns) = ⊥
+AllTell (w ∷ ws) [] = ⊥
+
+-- a header's form, its three numbers, and what stands behind it
+pub record Layout : Type 0 where
+  pub form : List ℕ
+  pub width : Word
+  pub height : Word
+  pub largest : Word
+  pub rest : List ℕ
+
+abbrev pub file_bytes : Layout → List ℕ
+file_bytes l = l.form ++ (word_bytes l.width ++ (word_bytes l.height ++ (word_bytes l.largest ++ l.rest)))
 
 -- an image within limits whose values are not above m
 pub record IsImage (m : ℕ) (i : Image) : Type 0 where
@@ -35,45 +59,59 @@ pub record IsImage (m : ℕ) (i : Image) : Type 0 where
   pub few_largest : m ≤ 255
   pub values : AllByRecursion (λ v. v ≤ m) i.greys
 
--- the image that it stands for, since m stands for white
+-- l is the layout of a file with such an image, where m stands for white
+pub record IsHeader (l : Layout) (m : ℕ) (i : Image) : Type 0 where
+  pub image : IsImage m i
+  pub width : Tells l.width i.width
+  pub height : Tells l.height i.height
+  pub largest : Tells l.largest m
+
+-- as a raw file: a white space byte, a byte for each value, and any others
+pub record IsRawFile (l : Layout) (m : ℕ) (i : Image) : Type 0 where
+  pub header : IsHeader l m i
+  pub form : l.form ≡ codes "P5"
+  pub space : ℕ
+  pub others : List ℕ
+  pub white : is_space space ≡ true
+  pub raster : l.rest ≡ space ∷ (i.greys ++ others)
+
+-- as a plain file: a number for each value, and any bytes that do not go on with a digit
+pub record IsPlainFile (l : Layout) (m : ℕ) (i : Image) : Type 0 where
+  pub header : IsHeader l m i
+  pub form : l.form ≡ codes "P2"
+  pub words : List Word
+  pub others : List ℕ
+  pub told : AllTell words i.greys
+  pub ended : digit_count others ≡ 0
+  pub raster : l.rest ≡ flat_map word_bytes words ++ others
+
+-- the bytes are those of a file with these values
+pub record IsFile (bs : List ℕ) (m : ℕ) (i : Image) : Type 0 where
+  pub layout : Layout
+  pub whole : bs ≡ file_bytes layout
+  pub form : IsRawFile layout m i ⊎ IsPlainFile layout m i
+
+-- the image that they stand for, since m stands for white
 abbrev pub brightened : ℕ → Image → Image
 brightened m i = record { width = i.width; height = i.height; greys = map (λ v. v * 255 / m) i.greys }
 
--- the header of a file whose first two bytes are these
-abbrev pub header_text : List ℕ → Layout → ℕ → Image → List ℕ → List ℕ
-header_text form l m i rest = form ++ (l.width ++ (decimal i.width ++ (l.height ++ (decimal i.height ++ (l.largest ++ (decimal m ++ rest))))))
+-- the bytes are those of a file, which is this image
+pub record IsFileOf (bs : List ℕ) (j : Image) : Type 0 where
+  pub largest : ℕ
+  pub values : Image
+  pub file : IsFile bs largest values
+  pub image : j ≡ brightened largest values
 
--- a raw file, where the byte s stands behind the header, and other bytes behind the image
-abbrev pub raw_file : Layout → ℕ → Image → ℕ → List ℕ → List ℕ
-raw_file l m i s rest = header_text (codes "P5") l m i (s ∷ (i.greys ++ rest))
-
--- the values of a plain file, with these gaps before them
-abbrev pub value_text : List ℕ × ℕ → List ℕ
-value_text (gap, v) = gap ++ decimal v
-
-abbrev pub raster_text : List (List ℕ) → List ℕ → List ℕ
-raster_text gaps vs = flat_map value_text (zip gaps vs)
-
--- a plain file
-abbrev pub plain_file : Layout → ℕ → Image → List (List ℕ) → List ℕ → List ℕ
-plain_file l m i gaps rest = header_text (codes "P2") l m i (raster_text gaps i.greys ++ rest)
-
--- r is the image of each file that bs may be, however it is laid out and whatever stands behind its image, where that is no digit of its last value
-pub record IsAnswered (bs : List ℕ) (r : Result Image ImageRefusal) : Type 0 where
-  pub raw : (l : Layout) (m : ℕ) (i : Image) (s : ℕ) (rest : List ℕ) → IsLayout l → IsImage m i → is_space s ≡ true → bs ≡ raw_file l m i s rest → r ≡ Ok (brightened m i)
-  pub plain : (l : Layout) (m : ℕ) (i : Image) (gaps : List (List ℕ)) (rest : List ℕ) → IsLayout l → IsImage m i → AllByRecursion IsGap gaps → length gaps ≡ length i.greys → digit_count rest ≡ 0 → bs ≡ plain_file l m i gaps rest → r ≡ Ok (brightened m i)
-
--- as tools mostly write them
-abbrev pub usual : Layout
-usual = record { width = codes "\n"; height = codes " "; largest = codes "\n" }
-
+-- the files of an image as tools mostly write them
 abbrev pub raw_pgm : Image → List ℕ
-raw_pgm i = raw_file usual 255 i 10 []
+raw_pgm i = codes "P5\n" ++ (decimal i.width ++ (codes " " ++ (decimal i.height ++ (codes "\n" ++ (decimal 255 ++ (codes "\n" ++ i.greys))))))
 
 abbrev pub plain_pgm : Image → List ℕ
-plain_pgm i = plain_file usual 255 i (replicate (length i.greys) (codes "\n")) (codes "\n")
+plain_pgm i = codes "P2\n" ++ (decimal i.width ++ (codes " " ++ (decimal i.height ++ (codes "\n" ++ (decimal 255 ++ (flat_map (λ g. codes "\n" ++ decimal g) i.greys ++ codes "\n"))))))
 
--- r is the image whose raw or plain file bs is
-pub record ReadsBack (bs : List ℕ) (r : Result Image ImageRefusal) : Type 0 where
+-- r is read of the bytes: the image of each file that they may be, and an image only where they are a file; and so an image comes back from its own files
+pub record IsAnswered (bs : List ℕ) (r : Result Image ImageRefusal) : Type 0 where
+  pub each : (m : ℕ) (i : Image) → IsFile bs m i → r ≡ Ok (brightened m i)
+  pub only : IfOk r (λ j. IsFileOf bs j)
   pub raw : (i : Image) → IsImage 255 i → bs ≡ raw_pgm i → r ≡ Ok i
   pub plain : (i : Image) → IsImage 255 i → bs ≡ plain_pgm i → r ≡ Ok i

@@ -2,7 +2,7 @@
 ghost use Rattle.std.specs.Prelude.{◌≡◌, ◌*◌, ◌/◌, ◌≤◌, ◌+◌, ◌∷◌, [], ◌++◌, length, IfOk, vec_items};
 ghost use Rattle.std.specs.Option.{option_map};
 ghost use Rattle.netpbm.specs.Images.{greys_read, image_read};
-ghost use Rattle.netpbm.specs.Layouts.{IsAnswered, ReadsBack};
+ghost use Rattle.netpbm.specs.Layouts.{IsAnswered};
 ghost use Rattle.netpbm.specs.Values.{image_told};
 ghost use Rattle.netpbm.specs.Passes.{the_header, numeral_of, capped, sample, greys_told, Bounded};
 
@@ -60,8 +60,7 @@ fn read_greys(heap: Global, header: &Header) -> Result<Result<Vec<u8>, ImageRefu
 // The page that a PGM file holds, raw or plain. Such a file may hold more images behind its first: they are not read.
 pub fn read_pgm(heap: Global, input: &[u8]) -> Result<Result<Page, ImageRefusal>, AllocError>
     ensures image { IfOk result (λ read. image_told read ≡ image_read input.now) }
-    ensures laid_out { IfOk result (λ read. IsAnswered input.now (image_told read)) }
-    ensures back { IfOk result (λ read. ReadsBack input.now (image_told read)) }
+    ensures file { IfOk result (λ read. IsAnswered input.now (image_told read)) }
 {
     let header = match read_header(input) {
         Ok(header) => header,
