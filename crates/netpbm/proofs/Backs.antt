@@ -10,7 +10,7 @@ use Rattle.netpbm.specs.declared.refusal.ImageRefusal.{ImageRefusal}
 use Rattle.netpbm.specs.Blanks.{is_space}
 use Rattle.netpbm.specs.Numerals.{Numeral, digit_count, number_read}
 use Rattle.netpbm.specs.Headers.{Header, form_of, raster_behind, header_read}
-use Rattle.netpbm.specs.Images.{Image, then, numbers, values, greys_read, image_read}
+use Rattle.netpbm.specs.Images.{Image, and_then, numbers, values, greys_read, image_read}
 use Rattle.netpbm.specs.Layouts.{Word, word_bytes, Tells, AllTell, Layout, file_bytes, IsImage, IsHeader, IsRawFile, IsPlainFile, IsFileOf}
 use Rattle.netpbm.proofs.Heads.{Parts, parts_found, header_bounded}
 use Rattle.netpbm.proofs.Samples.{low, count, greys_of-ok, length-values}
@@ -169,14 +169,14 @@ image-found bs h gs header greys =
     }
 
 -- what came of a file
-then-ok : {A B : Type 0} (r : Result A ImageRefusal) (f : A → Result B ImageRefusal) (b : B) → then r f ≡ Ok b → (a : A) × (r ≡ Ok a) × (f a ≡ Ok b)
-then-ok (Ok a) f b is = (a, refl, is)
-then-ok (Err x) f b is = cc
+and_then-ok : {A B : Type 0} (r : Result A ImageRefusal) (f : A → Result B ImageRefusal) (b : B) → and_then r f ≡ Ok b → (a : A) × (r ≡ Ok a) × (f a ≡ Ok b)
+and_then-ok (Ok a) f b is = (a, refl, is)
+and_then-ok (Err x) f b is = cc
 
 read-found : (bs : List ℕ) (j : Image) → image_read bs ≡ Ok j → IsFileOf bs j
 read-found bs j is =
-    let (h, header, rest) = then-ok (header_read bs) _ j is in
-    let (gs, greys, end) = then-ok (greys_read h) _ j rest in
+    let (h, header, rest) = and_then-ok (header_read bs) _ j is in
+    let (gs, greys, end) = and_then-ok (greys_read h) _ j rest in
     let same : record { width = h.width; height = h.height; greys = gs } ≡ j = cc (end) in
     subst (IsFileOf bs) same (image-found bs h gs header greys)
 

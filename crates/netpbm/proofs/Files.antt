@@ -8,8 +8,8 @@ use Rattle.netpbm.specs.declared.header.Form.{Form}
 use Rattle.netpbm.specs.declared.header.Form.TheVariants.{Raw, Plain}
 use Rattle.netpbm.specs.Blanks.{is_space}
 use Rattle.netpbm.specs.Numerals.{Numeral, digit_count, number_read, number_to}
-use Rattle.netpbm.specs.Headers.{Header, form_of, raster_behind, header_read}
-use Rattle.netpbm.specs.Images.{Image, then, numbers, values, greys_of, greys_read, image_read}
+use Rattle.netpbm.specs.Headers.{form_of, raster_behind, header_read}
+use Rattle.netpbm.specs.Images.{Image, and_then, numbers, values, greys_of, image_read, image_behind}
 use Rattle.netpbm.specs.Layouts.{Word, word_bytes, AllTell, Layout, file_bytes, IsImage, IsHeader, IsRawFile, IsPlainFile, IsFile, brightened}
 use Rattle.netpbm.proofs.Heads.{parts_read}
 use Rattle.netpbm.proofs.Samples.{low, scaled, greys-whole}
@@ -44,7 +44,7 @@ all_low m (v ∷ vs) (here, more) = rw (one m v here) (omega (arith, all_low m v
 image_laid : (bs raster : List ℕ) (form : Form) (m : ℕ) (i : Image) → IsImage m i → header_read bs ≡ Ok (record { form = form; width = i.width; height = i.height; largest = m; raster = raster }) → values form (i.width * i.height) raster ≡ i.greys → image_read bs ≡ Ok (brightened m i)
 image_laid bs raster form m i image header are =
     let greys : greys_of (i.width * i.height) m (values form (i.width * i.height) raster) ≡ Ok (map (scaled m) i.greys) = ap (greys_of (i.width * i.height) m) are ∙ greys-whole (i.width * i.height) m i.greys (all_low m i.greys image.values) image.within.whole in
-    ap (λ r. then r (λ (h : Header). then (greys_read h) (λ gs. Ok (record { width = h.width; height = h.height; greys = gs })))) header ∙ ap (λ r. then r (λ gs. Ok (record { width = i.width; height = i.height; greys = gs }))) greys
+    ap (λ r. and_then r image_behind) header ∙ ap (λ r. and_then r (λ gs. Ok (record { width = i.width; height = i.height; greys = gs }))) greys
 
 -- what follows the header of a raw file
 space-stops : (s : ℕ) (bs : List ℕ) → is_space s ≡ true → digit_count (s ∷ bs) ≡ 0

@@ -4,7 +4,7 @@ use Rattle.std.specs.List.{AllByRecursion, flat_map}
 use Rattle.std.proofs.lemmas.Fmt.{decimal_is_IsNumeral}
 use Rattle.netpbm.specs.declared.refusal.ImageRefusal.{ImageRefusal}
 use Rattle.netpbm.specs.Headers.{Header, header_read}
-use Rattle.netpbm.specs.Images.{Image, then, greys_read, image_read}
+use Rattle.netpbm.specs.Images.{Image, and_then, greys_read, image_read, image_behind}
 use Rattle.netpbm.specs.Layouts.{IsGap, Word, word_bytes, Tells, AllTell, Layout, IsImage, IsHeader, IsFile, brightened, IsAnswered, raw_pgm, plain_pgm}
 use Rattle.netpbm.specs.Layouts.IsBlank.{nothing, space}
 use Rattle.netpbm.proofs.Gaps.{all_digits}
@@ -88,7 +88,7 @@ answered bs r is = record {
 
 -- what is read of a file whose header is refused, and of one whose header is read
 pub image-refused : (bs : List ℕ) (x : ImageRefusal) → Err x ≡ header_read bs → Err x ≡ image_read bs
-image-refused bs x is = ap (λ r. then r (λ (h : Header). then (greys_read h) (λ gs. Ok (record { width = h.width; height = h.height; greys = gs })))) is
+image-refused bs x is = ap (λ r. and_then r image_behind) is
 
-pub image-of_greys : (bs : List ℕ) (h : Header) (r : Result (List ℕ) ImageRefusal) → Ok h ≡ header_read bs → r ≡ greys_read h → then r (λ gs. Ok (record { width = h.width; height = h.height; greys = gs })) ≡ image_read bs
-image-of_greys bs h r header greys = ap (λ s. then s (λ gs. Ok (record { width = h.width; height = h.height; greys = gs }))) greys ∙ ap (λ r. then r (λ (h : Header). then (greys_read h) (λ gs. Ok (record { width = h.width; height = h.height; greys = gs })))) header
+pub image-of_greys : (bs : List ℕ) (h : Header) (r : Result (List ℕ) ImageRefusal) → Ok h ≡ header_read bs → r ≡ greys_read h → and_then r (λ gs. Ok (record { width = h.width; height = h.height; greys = gs })) ≡ image_read bs
+image-of_greys bs h r header greys = ap (λ s. and_then s (λ gs. Ok (record { width = h.width; height = h.height; greys = gs }))) greys ∙ ap (λ r. and_then r image_behind) header

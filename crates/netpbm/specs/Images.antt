@@ -46,13 +46,13 @@ abbrev pub greys_read : Header → Result (List ℕ) ImageRefusal
 greys_read h = let n = h.width * h.height in greys_of n h.largest (values h.form n h.raster)
 
 -- f of what is there, or the refusal
-abbrev pub then : {A B : Type 0} → Result A ImageRefusal → (A → Result B ImageRefusal) → Result B ImageRefusal
-then (Err x) f = Err x
-then (Ok a) f = f a
+abbrev pub and_then : {A B : Type 0} → Result A ImageRefusal → (A → Result B ImageRefusal) → Result B ImageRefusal
+and_then (Err x) f = Err x
+and_then (Ok a) f = f a
 
--- the image of a file
+-- the image behind a header, and that of a file
+abbrev pub image_behind : Header → Result Image ImageRefusal
+image_behind h = and_then (greys_read h) (λ greys. Ok (record { width = h.width; height = h.height; greys = greys }))
+
 abbrev pub image_read : List ℕ → Result Image ImageRefusal
-image_read bs =
-    then (header_read bs) (λ h.
-    then (greys_read h) (λ greys.
-    Ok (record { width = h.width; height = h.height; greys = greys })))
+image_read bs = and_then (header_read bs) image_behind

@@ -1,5 +1,6 @@
 // A page: grey values in rows.
-ghost use Rattle.std.specs.Prelude.{◌≡◌, ◌*◌, ◌≤◌, length, vec_items};
+ghost use Rattle.std.specs.Prelude.{◌≡◌, vec_items};
+ghost use Rattle.netpbm.specs.Images.{WithinLimits};
 
 // The most pixels that a row or a column of a page may have.
 pub const MOST_SIDE: usize = 16_384;
@@ -10,15 +11,10 @@ pub struct Page {
     pub(crate) width: usize,
     pub(crate) height: usize,
     pub(crate) greys: Vec<u8>,
-    ghost some_columns: { 1 ≤ width },
-    ghost few_columns: { width ≤ 16384 },
-    ghost some_rows: { 1 ≤ height },
-    ghost few_rows: { height ≤ 16384 },
-    ghost whole: { length (vec_items greys) ≡ width * height },
+    ghost within: { WithinLimits (record { width = width; height = height; greys = vec_items greys }) },
 }
 
 impl Page {
-    ghost use Rattle.netpbm.specs.Images.{WithinLimits};
     ghost use Rattle.netpbm.specs.Values.{image_of};
 
     // How many pixels a row has.

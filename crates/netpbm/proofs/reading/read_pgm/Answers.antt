@@ -12,7 +12,7 @@ pub invariant_of-result : goal.invariant_of-result
 invariant_of-result c =
     let bounded = header_bounded c.args.input.now (the_header c.in-Ok.header) (sym c.in-Ok.ensures) in
     let size = length-greys (the_header c.in-Ok.header) _ (sym (sym (ap greys_told c.in-Ok-2.is) ∙ c.in_ok-greys.ensures)) in
-    record { some_columns = bounded.some_columns; few_columns = bounded.few_columns; some_rows = bounded.some_rows; few_rows = bounded.few_rows; whole = size }
+    record { within = record { some_columns = bounded.some_columns; few_columns = bounded.few_columns; some_rows = bounded.some_rows; few_rows = bounded.few_rows; whole = size } }
 
 pub returns-in-Err-clause-file : goal.returns-in-Err-clause-file
 returns-in-Err-clause-file c = answered c.args.input.now _ (image-refused c.args.input.now c.in-Err.refusal c.in-Err.ensures)

@@ -5,7 +5,6 @@ use Rattle.netpbm.specs.Values.{image_of}
 use Rattle.netpbm.proofs.Pixels.{text_more}
 use Rattle.netpbm.proofs.writing.write_pbm.Goals as goal
 use Rattle.netpbm.proofs.Lines.{written_plain}
-use Rattle.netpbm.specs.Images.{WithinLimits}
 
 pub loop-pixel-preserved : goal.loop-pixel-preserved
 loop-pixel-preserved c =
@@ -15,6 +14,5 @@ loop-pixel-preserved c =
 pub returns-clause-plain : goal.returns-clause-plain
 returns-clause-plain c =
     let page = c.args.page.now in
-    let within : WithinLimits (image_of page) = record { some_columns = page.some_columns; few_columns = page.few_columns; some_rows = page.some_rows; few_rows = page.few_rows; whole = page.whole } in
     let all : c.loop-pixel.pixel ≡ page.width * page.height = omega arith in
-    written_plain (string_bytes c.loop-pixel.text) (image_of page) c.args.black.now c.args.tiles c.args.energy within (omega arith) (omega arith) (c.loop-pixel.invariant ∙ ap (λ n. head_text (image_of page) c.args.tiles c.args.energy ++ pixels_text page.width c.args.black.now n) all)
+    written_plain (string_bytes c.loop-pixel.text) (image_of page) c.args.black.now c.args.tiles c.args.energy page.within (omega arith) (omega arith) (c.loop-pixel.invariant ∙ ap (λ n. head_text (image_of page) c.args.tiles c.args.energy ++ pixels_text page.width c.args.black.now n) all)
