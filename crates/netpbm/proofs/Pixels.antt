@@ -4,7 +4,7 @@ use Rattle.std.specs.List.{flat_map, range_with_len}
 use Rattle.netpbm.specs.Bitmaps.{is_black, breaks_line, pixel_text, pixels_text}
 
 -- one number more
-flat_map-range : (f : ℕ → List ℕ) (a n j : ℕ) → a + n ≡ j → flat_map f (range_with_len a (suc n)) ≡ flat_map f (range_with_len a n) ++ f j
+pub flat_map-range : (f : ℕ → List ℕ) (a n j : ℕ) → a + n ≡ j → flat_map f (range_with_len a (suc n)) ≡ flat_map f (range_with_len a n) ++ f j
 flat_map-range f a zero j is = append-nil (f a) ∙ ap f (omega arith)
 flat_map-range f a (suc n) j is = ap (λ xs. f a ++ xs) (flat_map-range f (a + 1) n j (omega arith)) ∙ sym (append_assoc (f a) (flat_map f (range_with_len (a + 1) n)) (f j))
 

@@ -95,17 +95,17 @@ at_places_of w n v k a is =
     (at_first (right_at w n v) _ a k _ is)
 
 -- what holds of the pairs at each side of each pixel holds of each pair
-each_pair : (P : ℕ → Type 0) → ((v : ℕ) → P (2 * v)) → ((v : ℕ) → P (2 * v + 1)) → (p : ℕ) → P p
+pub each_pair : (P : ℕ → Type 0) → ((v : ℕ) → P (2 * v)) → ((v : ℕ) → P (2 * v + 1)) → (p : ℕ) → P p
 each_pair P right below p =
     ⊎_elim
     (λ (two : 2 * (p / 2) ≡ p). subst P two (right (p / 2)))
     (λ (not : 2 * (p / 2) ≡ p → ⊥). let two : 2 * (p / 2) + 1 ≡ p = omega arith in subst P two (below (p / 2)))
     (cases_eq (2 * (p / 2)) p)
 
-right_side : (v : ℕ) → side_of (2 * v) ≡ Right
+pub right_side : (v : ℕ) → side_of (2 * v) ≡ Right
 right_side v = rw (eq-eqb ((2 * v) % 2) 0 (omega arith))
 
-below_side : (v : ℕ) → side_of (2 * v + 1) ≡ Below
+pub below_side : (v : ℕ) → side_of (2 * v + 1) ≡ Below
 below_side v = rw (ne_eqb ((2 * v + 1) % 2) 0 (omega arith))
 
 -- the neighbour at the right of pixel v is v + 1, and the one below v + w

@@ -1,0 +1,89 @@
+-- What is laid of an area is accepted, and splits it for little.
+use Rattle.std.proofs.Common.{◌≡◌, ℕ, zero, suc, ◌+◌, ◌-◌, ◌*◌, ◌/◌, ◌%◌, ◌<◌, ◌≤◌, Bool, true, false, cond, not, ◌&&◌, ◌||◌, List, [], ◌∷◌, ◌++◌, length, get_or, refl, ap, sym, ◌∙◌, subst, arith}
+use Rattle.std.specs.Prelude.{None, nat_lt}
+use Rattle.std.specs.List.{flat_map, range_with_len, list_any}
+use Rattle.std.proofs.lemmas.Bool.{cases_Bool, lt-ltb, le-leb, eq-eqb, le-ltb}
+use Rattle.std.proofs.lemmas.List.{length-append, get_or_append_left, get_or-append_right}
+use Rattle.std.proofs.Math.Nat.{mod-add-div'}
+use Rattle.tile.specs.Grids.{joined}
+use Rattle.tile.specs.Laws.{each_pair, right_side, below_side, pair_out, pair_back}
+use Rattle.tile.specs.Tiles.{penalty as penalty_laid}
+use Rattle.tile.specs.Refusals.{off_tile, lay_refusal}
+use Rattle.tile.proofs.Neighbours.{joins_neighbours}
+use Rattle.netpbm.specs.Images.{Image}
+use Rattle.prepress.specs.declared.area.Area.{Area}
+use Rattle.prepress.specs.Areas.{OnPage, pixels}
+use Rattle.prepress.specs.Cuts.{Bytes}
+use Rattle.prepress.specs.Greys.{pixel_costs, area_costs}
+use Rattle.prepress.proofs.Areas.{split_rows}
+
+-- pieces of four, one behind another
+fours_long : (f : ℕ → List ℕ) (a n : ℕ) → ((v : ℕ) → length (f v) ≡ 4) → length (flat_map f (range_with_len a n)) ≡ 4 * n
+fours_long f a zero four = refl
+fours_long f a (suc n) four = omega (arith, length-append (f a) (flat_map f (range_with_len (a + 1) n)), four a, fours_long f (a + 1) n four)
+
+fours_at : (f : ℕ → List ℕ) (a n v k : ℕ) → ((v : ℕ) → length (f v) ≡ 4) → v < n → k < 4 → get_or (flat_map f (range_with_len a n)) (4 * v + k) 0 ≡ get_or (f (a + v)) k 0
+fours_at f a zero v k four there inside = absurd (omega arith)
+fours_at f a (suc n) zero k four there inside =
+    let here : a + 0 ≡ a = omega arith in
+    let first : 4 * 0 + k ≡ k = omega arith in
+    rw (here, first) (get_or_append_left (f a) (flat_map f (range_with_len (a + 1) n)) 0 k (omega (arith, four a)))
+fours_at f a (suc n) (suc v) k four there inside =
+    let on : 4 * suc v + k - 4 ≡ 4 * v + k = omega arith in
+    let next : a + suc v ≡ a + 1 + v = omega arith in
+    get_or-append_right (f a) (flat_map f (range_with_len (a + 1) n)) 4 (4 * suc v + k) 0 (four a) (omega arith)
+    ∙ rw (on, next) (fours_at f (a + 1) n v k four (omega arith) inside)
+
+-- no number passes the test
+none_passes : (p : ℕ → Bool) (a n : ℕ) → ((k : ℕ) → k < a + n → p k ≡ false) → list_any p (range_with_len a n) ≡ false
+none_passes p a zero none = refl
+none_passes p a (suc n) none = rw (none a (omega arith)) (none_passes p (a + 1) n (λ k there. none k (omega arith)))
+
+pub costs_long : (i : Image) (a : Area) → length (area_costs i a) ≡ 4 * pixels a
+costs_long i a = fours_long (pixel_costs i a) 0 (pixels a) (λ v. refl)
+
+-- the bytes of pixel v
+cost_at : (i : Image) (a : Area) (v k : ℕ) → v < pixels a → k < 4 → get_or (area_costs i a) (4 * v + k) 0 ≡ get_or (pixel_costs i a v) k 0
+cost_at i a v k there inside = let same : 0 + v ≡ v = omega arith in fours_at (pixel_costs i a) 0 (pixels a) v k (λ u. refl) there inside ∙ ap (λ u. get_or (pixel_costs i a u) k 0) same
+
+-- nothing passes the test of a penalty off the tile: there is one only where the neighbour is on the area
+no_penalty : (b : Bool) (x : ℕ) → (not b && nat_lt 0 (cond b x 0)) ≡ false
+no_penalty true x = refl
+no_penalty false x = refl
+
+pair_inside : (i : Image) (a : Area) (p : ℕ) → p < 2 * pixels a → (not (joined a.width (pixels a) p) && nat_lt 0 (penalty_laid (area_costs i a) p)) ≡ false
+pair_inside i a = each_pair (λ p. p < 2 * pixels a → (not (joined a.width (pixels a) p) && nat_lt 0 (penalty_laid (area_costs i a) p)) ≡ false)
+    (λ v there.
+    let inside : v < pixels a = omega arith in
+    let (_, row, column, whole) = split_rows a.height a.width v (omega arith) in
+    let on = (joins_neighbours a.width a.height (v % a.width) (v / a.width) column row).0 in
+    let is : joined a.width (pixels a) (2 * v) ≡ nat_lt (v % a.width + 1) a.width = subst (λ k. joined a.width (pixels a) (2 * k) ≡ nat_lt (v % a.width + 1) a.width) whole on in
+    rw (is, right_side v, pair_out v, cost_at i a v 2 inside (omega arith)) (no_penalty (nat_lt (v % a.width + 1) a.width) _))
+    (λ v there.
+    let inside : v < pixels a = omega arith in
+    let (_, row, column, whole) = split_rows a.height a.width v (omega arith) in
+    let on = (joins_neighbours a.width a.height (v % a.width) (v / a.width) column row).1 in
+    let is : joined a.width (pixels a) (2 * v + 1) ≡ nat_lt (v / a.width + 1) a.height = subst (λ k. joined a.width (pixels a) (2 * k + 1) ≡ nat_lt (v / a.width + 1) a.height) whole on in
+    rw (is, below_side v, pair_back v, cost_at i a v 3 inside (omega arith)) (no_penalty (nat_lt (v / a.width + 1) a.height) _))
+
+costs_inside : (i : Image) (a : Area) → off_tile a.width (pixels a) (area_costs i a) ≡ false
+costs_inside i a = none_passes _ 0 (2 * pixels a) (λ p there. pair_inside i a p (omega arith))
+
+-- so a lay over a table that is long enough is accepted
+pub lay_accepted : (i : Image) (a : Area) (w h records : ℕ) → OnPage w h a → pixels a ≤ records → lay_refusal a.width a.height (area_costs i a) records ≡ None
+lay_accepted i a w h records on room =
+    let long = costs_long i a in
+    rw (costs_inside i a, le-leb 1 a.width on.some_columns, le-leb a.width 64 on.narrow, le-leb 1 a.height on.some_rows, le-leb a.height 64 on.low, eq-eqb (length (area_costs i a)) (4 * (a.width * a.height)) long, le-ltb records (pixels a) room) refl
+
+-- the costs are bytes
+pub four_bytes : (a b c d : ℕ) → a < 256 → b < 256 → c < 256 → d < 256 → Bytes (a ∷ b ∷ c ∷ d ∷ [])
+four_bytes a b c d p q r s zero = omega arith
+four_bytes a b c d p q r s (suc zero) = omega arith
+four_bytes a b c d p q r s (suc (suc zero)) = omega arith
+four_bytes a b c d p q r s (suc (suc (suc zero))) = omega arith
+four_bytes a b c d p q r s (suc (suc (suc (suc k)))) = omega arith
+
+pub more_bytes : (xs ys : List ℕ) → Bytes xs → Bytes ys → Bytes (xs ++ ys)
+more_bytes [] ys p q k = q k
+more_bytes (x ∷ xs) ys p q zero = p 0
+more_bytes (x ∷ xs) ys p q (suc k) = more_bytes xs ys (λ j. p (suc j)) q k

@@ -1,0 +1,6 @@
+pub mod Areas
+pub mod Costs
+pub mod Bests
+pub mod Blackening
+pub mod Pages
+pub mod Ones

@@ -1,0 +1,52 @@
+-- How a page is cut into areas of at most 64 by 64 pixels, row by row from the top.
+use Rattle.std.specs.Prelude.{◌≡◌, ℕ, ◌+◌, ◌-◌, ◌*◌, ◌/◌, ◌%◌, ◌<◌, ◌≤◌, min}
+use Rattle.std.specs.Int.{div_ceil}
+use Rattle.prepress.specs.declared.area.Area.{Area}
+
+-- how many parts of 64 pixels, the last of them maybe shorter, a side of so many pixels is cut into
+abbrev pub parts : ℕ → ℕ
+parts side = div_ceil side 64
+
+-- how many pixels part k of it has
+abbrev pub part_length : ℕ → ℕ → ℕ
+part_length side k = min 64 (side - k * 64)
+
+-- how many areas a page w wide and h high has
+abbrev pub areas : ℕ → ℕ → ℕ
+areas w h = parts w * parts h
+
+-- area t of it
+abbrev pub area_of : ℕ → ℕ → ℕ → Area
+area_of w h t = let row = t / parts w in let column = t % parts w in record {
+  top = row * 64;
+  left = column * 64;
+  width = part_length w column;
+  height = part_length h row;
+}
+
+-- how many pixels an area has
+abbrev pub pixels : Area → ℕ
+pixels a = a.width * a.height
+
+-- the number that pixel v of an area has on a page w wide
+abbrev pub place : ℕ → Area → ℕ → ℕ
+place w a v = (a.top + v / a.width) * w + (a.left + v % a.width)
+
+-- an area has pixels, at most 64 by 64, and lies on a page w wide and h high
+pub record OnPage (w h : ℕ) (a : Area) : Type 0 where
+  pub some_columns : 0 < a.width
+  pub some_rows : 0 < a.height
+  pub narrow : a.width ≤ 64
+  pub low : a.height ≤ 64
+  pub columns : a.left + a.width ≤ w
+  pub rows : a.top + a.height ≤ h
+
+-- pixel v of area t is pixel p of a page w wide and h high
+pub record StandsAt (w h p t v : ℕ) : Type 0 where
+  pub area : t < areas w h
+  pub pixel : v < pixels (area_of w h t)
+  pub place : place w (area_of w h t) v ≡ p
+
+-- each pixel of a page is a pixel of an area, and of one only
+abbrev pub AreasPartPages : Type 0
+AreasPartPages = (w h p : ℕ) → p < w * h → ((t : ℕ) × (v : ℕ) × StandsAt w h p t v) × ((t v s u : ℕ) → StandsAt w h p t v → StandsAt w h p s u → (t ≡ s) × (v ≡ u))
