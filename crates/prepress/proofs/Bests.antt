@@ -1,25 +1,24 @@
 -- The marks of the cheapest selections of a tile tell the best split of the area that it is laid from.
-use Rattle.std.proofs.Common.{◌≡◌, ℕ, ◌+◌, ◌*◌, ◌<◌, ◌≤◌, Bool, true, false, cond, ◌&&◌, List, length, get_or, Some, None, Option, Ok, Err, Result, refl, ap, sym, ◌∙◌, subst, arith}
-use Rattle.std.specs.List.{slice_get}
+use Rattle.std.proofs.Common.{◌≡◌, ℕ, ◌*◌, ◌<◌, ◌≤◌, Bool, true, false, cond, ◌&&◌, List, length, get_or, Some, None, Option, Ok, Err, Result, refl, sym, ◌∙◌, subst, arith}
 use Rattle.std.specs.Result.{IsOk}
 use Rattle.std.proofs.lemmas.Bool.{cases_Bool}
 use Rattle.std.proofs.lemmas.Option.{slice_get-get_or}
 use Rattle.network.specs.declared.mark.Mark.{Mark}
 use Rattle.network.specs.declared.mark.Mark.TheVariants.{In, Out, Either}
 use Rattle.network.specs.Nets.{Net, Lawful}
-use Rattle.network.specs.Cuts.{Selection, sum_below, cost, Cheapest, CheapestCost, Marked, AllMarked}
+use Rattle.network.specs.Cuts.{Selection, cost, Cheapest, CheapestCost, Marked, AllMarked}
 use Rattle.network.specs.Theorems.{inside}
 use Rattle.network.proofs.Marking.{marked_cheapest}
 use Rattle.network.proofs.Sums.{sum_zero, sum_at_most}
-use Rattle.tile.specs.Grids.{owner, neighbour, joined}
+use Rattle.tile.specs.Grids.{joined}
 use Rattle.tile.specs.declared.refusal.LayRefusal.{LayRefusal}
 use Rattle.tile.specs.Calls.{State, LaidOn, lay_refused, Laid}
-use Rattle.tile.specs.Tiles.{penalty, line, tone, tile_network, energy, differ}
+use Rattle.tile.specs.Tiles.{penalty, line, tile_network, energy, differ}
 use Rattle.netpbm.specs.Images.{Image}
 use Rattle.prepress.specs.declared.area.Area.{Area}
 use Rattle.prepress.specs.Areas.{OnPage, pixels}
 use Rattle.prepress.specs.Greys.{area_costs}
-use Rattle.prepress.specs.Splits.{area_energy, LeastEnergy, BestSplit, is_line, lines}
+use Rattle.prepress.specs.Splits.{area_energy, LeastEnergy, is_line, lines}
 use Rattle.prepress.specs.Cuts.{Bytes, AreaCut}
 use Rattle.prepress.proofs.Costs.{lay_accepted}
 

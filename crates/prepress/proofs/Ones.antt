@@ -1,12 +1,11 @@
 -- A page has one split.
-use Rattle.std.proofs.Common.{◌≡◌, ℕ, ◌*◌, ◌<◌, ◌&&◌, Bool, true, false, List, length, get_or, refl, ap, sym, ◌∙◌, subst, ⊎_elim, arith}
-use Rattle.std.specs.Prelude.{nat_lt}
+use Rattle.std.proofs.Common.{◌≡◌, ℕ, ◌*◌, ◌<◌, Bool, true, false, List, get_or, refl, sym, ◌∙◌, ⊎_elim, arith}
 use Rattle.std.proofs.lemmas.Bool.{cases_Bool, lt-ltb}
 use Rattle.std.proofs.lemmas.List.{ext_get_or}
 use Rattle.network.specs.Cuts.{Selection, sum_below}
 use Rattle.netpbm.specs.Images.{Image}
 use Rattle.prepress.specs.declared.area.Area.{Area}
-use Rattle.prepress.specs.Areas.{area_of, pixels, place, StandsAt}
+use Rattle.prepress.specs.Areas.{area_of, pixels}
 use Rattle.prepress.specs.Splits.{area_energy, BestSplit, on_area, SplitOf, OnlySplit}
 use Rattle.prepress.proofs.Areas.{areas_part_pages}
 

@@ -1,11 +1,9 @@
 -- Changes of one pixel's record, and what they change of the network that the pixels mean.
-use Rattle.std.proofs.Common.{◌≡◌, ℕ, ◌+◌, ◌-◌, ◌*◌, ◌/◌, ◌%◌, ◌<◌, ◌≤◌, true, cond, eqb, List, length, get_or, set, take, sym, refl, ap, ◌∙◌, subst, ⊎_elim, arith, rules, length-set}
-use Rattle.std.proofs.lemmas.Bool.{cases_eq, eq-eqb, ne_eqb}
+use Rattle.std.proofs.Common.{◌≡◌, ℕ, ◌+◌, ◌/◌, ◌<◌, ◌≤◌, true, cond, eqb, List, length, set, take, refl, subst, arith, rules, length-set}
 use Rattle.std.proofs.lemmas.Bool.Decides.{nat_tests}
 use Rattle.std.proofs.lemmas.List.{get_or-set_same, get_or-set_other, get_or-take, length-take-le}
 use Rattle.std.proofs.Math.Seq.{take-set-lt}
 use Rattle.network.specs.declared.terminal.Terminal.{Terminal}
-use Rattle.network.specs.declared.terminal.Terminal.TheVariants.{Source, Sink}
 use Rattle.network.specs.Answers.{within, shift_answer}
 use Rattle.network.specs.Nets.{with_terminal, shifted}
 use Rattle.tile.specs.declared.arc.Side.{Side}

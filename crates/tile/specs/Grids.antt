@@ -1,6 +1,6 @@
 -- The graph of a tile: pixels numbered row by row, each joined to its neighbours. Each pair of arcs has a number: pair 2v joins pixel v to
 -- the one at its right, and pair 2v + 1 to the one below. Pair p has the arcs 2p, from pixel v to the neighbour, and 2p + 1, back.
-use Rattle.std.specs.Prelude.{ℕ, ◌+◌, ◌-◌, ◌*◌, ◌/◌, ◌%◌, Bool, true, cond, ◌&&◌, List, [], ◌∷◌, ◌++◌, Some, None, Option, ◌==◌, nat_le, nat_lt}
+use Rattle.std.specs.Prelude.{ℕ, ◌+◌, ◌-◌, ◌*◌, ◌/◌, ◌%◌, Bool, true, cond, ◌&&◌, List, [], ◌∷◌, ◌++◌, Some, None, ◌==◌, nat_le, nat_lt}
 use Rattle.network.specs.Nets.{Ends, Graph}
 use Rattle.tile.specs.declared.arc.Side.{Side}
 use Rattle.tile.specs.declared.arc.Side.TheVariants.{Right, Below}

@@ -1,18 +1,18 @@
 -- A tile of small pixels keeps the laws of a network. Assumes nothing.
-use Rattle.std.specs.Prelude.{◌≡◌, ℕ, zero, suc, ◌+◌, ◌-◌, ◌*◌, ◌/◌, ◌%◌, ◌^◌, ◌<◌, ◌≤◌, Bool, true, false, cond, ◌&&◌, ◌⊎◌, List, [], ◌∷◌, ◌++◌, length, Some, ◌≢◌, nat_le, nat_lt, refl}
+use Rattle.std.specs.Prelude.{◌≡◌, ℕ, zero, suc, ◌+◌, ◌-◌, ◌*◌, ◌/◌, ◌%◌, ◌^◌, ◌<◌, ◌≤◌, Bool, true, false, cond, ◌&&◌, ◌⊎◌, List, ◌++◌, length, Some, ◌≢◌, nat_le, nat_lt, refl}
 use Rattle.std.proofs.Common.{ap, sym, ◌∙◌, subst, subst₂, inl, inr, ⊎_elim, arith}
 use Rattle.std.proofs.lemmas.Bool.{ltb-true, lt-ltb, leb-true, le-leb, eq-eqb, ne_eqb, cases_eq, and_parts}
 use Rattle.std.proofs.lemmas.Bool.Decides.{nat_tests}
-use Rattle.std.proofs.lemmas.Option.{cond_some, same_Some}
+use Rattle.std.proofs.lemmas.Option.{cond_some}
 use Rattle.std.specs.List.{slice_get}
 use Rattle.network.specs.declared.terminal.Terminal.TheVariants.{Source, Sink}
-use Rattle.network.specs.Nets.{Ends, LawfulGraph, Lawful, Distinct, reversed}
+use Rattle.network.specs.Nets.{Ends, LawfulGraph, Lawful, reversed}
 use Rattle.tile.specs.declared.pixel.Pixel.{Pixel}
 use Rattle.tile.specs.declared.arc.Side.{Side}
 use Rattle.tile.specs.declared.arc.Side.TheVariants.{Right, Below}
 use Rattle.tile.specs.declared.arc.Way.TheVariants.{Out, Back}
-use Rattle.tile.specs.Pixels.{Small, pair_of}
-use Rattle.tile.specs.Grids.{owner, side_of, way_of, step, neighbour, goes_on, on_tile, joined, joins, only, arcs_of, grid}
+use Rattle.tile.specs.Pixels.{pair_of}
+use Rattle.tile.specs.Grids.{owner, side_of, way_of, neighbour, goes_on, on_tile, joined, joins, only, arcs_of, grid}
 use Rattle.tile.specs.Tables.{AllSmall, pixel_at, of_pixels}
 
 -- the arcs of pair p are 2p and 2p + 1

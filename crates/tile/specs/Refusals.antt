@@ -1,5 +1,5 @@
 -- When a tile refuses a lay, and the numbers of the refusals.
-use Rattle.std.specs.Prelude.{ℕ, ◌*◌, Bool, cond, not, ◌&&◌, ◌||◌, List, length, Some, None, Option, ◌==◌, nat_le, nat_lt}
+use Rattle.std.specs.Prelude.{ℕ, ◌*◌, Bool, cond, not, ◌&&◌, List, length, Some, None, Option, ◌==◌, nat_le, nat_lt}
 use Rattle.std.specs.List.{list_any, range_with_len}
 use Rattle.tile.specs.declared.refusal.LayRefusal.{LayRefusal}
 use Rattle.tile.specs.declared.refusal.LayRefusal.TheVariants.{WrongSize, WrongLength, ShortTable, PenaltyOffTile}

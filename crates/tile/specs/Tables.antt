@@ -1,5 +1,5 @@
 -- What the pixels of a table mean as a network.
-use Rattle.std.specs.Prelude.{ℕ, ◌+◌, ◌*◌, ◌/◌, ◌<◌, List, length, slice_index_or}
+use Rattle.std.specs.Prelude.{ℕ, ◌/◌, ◌<◌, List, length, slice_index_or}
 use Rattle.network.specs.Nets.{Net}
 use Rattle.tile.specs.declared.pixel.Pixel.{Pixel}
 use Rattle.tile.specs.Pixels.{Small, both, terminal_of, pair_of, residual_of}

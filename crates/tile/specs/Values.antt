@@ -1,5 +1,5 @@
 -- What a tile is, that it keeps the laws of a network, and what else it keeps. Assumes nothing.
-use Rattle.std.specs.Prelude.{ℕ, ◌*◌, ◌≡◌, ◌≤◌, List, length, take, refl}
+use Rattle.std.specs.Prelude.{◌*◌, ◌≤◌, List, take, refl}
 use Rattle.std.proofs.Common.{◌∙◌, arith}
 use Rattle.std.proofs.lemmas.Nat.{mul-le}
 use Rattle.std.proofs.lemmas.List.{length-take-le}
@@ -7,7 +7,7 @@ use Rattle.network.specs.Keeping.{Keeping}
 use Rattle.network.specs.Nets.{Net, Lawful}
 use Rattle.tile.specs.declared.tile.Tile.{Tile}
 use Rattle.tile.specs.declared.pixel.Pixel.{Pixel}
-use Rattle.tile.specs.Calls.{State, SparedFrom, StillLaid}
+use Rattle.tile.specs.Calls.{State, StillLaid}
 use Rattle.tile.specs.Tables.{of_pixels}
 use Rattle.tile.specs.Laws.{lawful}
 

@@ -1,4 +1,4 @@
-use Rattle.std.proofs.Common.{◌≡◌, length, ◌∙◌, arith, rules}
+use Rattle.std.proofs.Common.{◌≡◌, length, ◌∙◌, rules}
 use Rattle.std.proofs.lemmas.List.{take_at}
 use Rattle.engine.proofs.Rights.{all_marked, stand_for_marks}
 use Rattle.engine.proofs.cutting.cheapest_cut.Goals as goal

@@ -1,8 +1,7 @@
-use Rattle.std.proofs.Common.{◌≡◌, ◌+◌, ◌≤◌, length, ◌∙◌, ap, arith, rules}
+use Rattle.std.proofs.Common.{◌≡◌, ◌+◌, ◌≤◌, length, arith, rules}
 use Rattle.search.specs.declared.report.Outcome.TheVariants.{Finished, Paused}
 use Rattle.search.specs.Runs.Runs.{none}
 use Rattle.search.specs.Runs.{Lent}
-use Rattle.network.specs.Nets.{Graph}
 use Rattle.engine.proofs.Finishing.{accepted, same_nodes, gained_more, gains_small, costs_less, paused_gains, concluded}
 use Rattle.engine.proofs.cutting.finish.Goals as goal
 

@@ -1,4 +1,4 @@
-use Rattle.std.proofs.Common.{◌≡◌, ◌≤◌, length, ap, sym, subst, arith, rules, vec_items}
+use Rattle.std.proofs.Common.{◌≡◌, ◌≤◌, length, ap, subst, arith, rules, vec_items}
 use Rattle.std.proofs.lemmas.Result.{IfOk-weaker}
 use Rattle.netpbm.specs.Values.{image_of}
 use Rattle.tile.specs.Calls.{State}

@@ -1,8 +1,7 @@
-use Rattle.std.proofs.Common.{◌≡◌, ◌<◌, length, drop, refl, ap, sym, ◌∙◌, subst, arith, rules, vec_items}
+use Rattle.std.proofs.Common.{◌≡◌, length, drop, arith, rules, vec_items}
 use Rattle.std.proofs.lemmas.List.{take_at}
 use Rattle.netpbm.specs.Images.{Image}
 use Rattle.netpbm.specs.Values.{image_of}
-use Rattle.prepress.specs.Areas.{OnPage}
 use Rattle.prepress.proofs.Pages.{split_none, page_more, area_told, all_split}
 use Rattle.prepress.proofs.Ones.{only_split}
 use Rattle.prepress.proofs.splitting.split_page.Goals as goal

@@ -1,6 +1,5 @@
-use Rattle.std.proofs.Common.{◌≡◌, ◌<◌, true, false, length, None, get_or, sym, refl, ap, ◌∙◌, arith, rules}
-use Rattle.std.specs.Option.{is_some}
-use Rattle.tile.proofs.Nth.{nth_of, from_none, from_here, from_later, from_end}
+use Rattle.std.proofs.Common.{◌<◌, length, sym, refl, ◌∙◌, arith, rules}
+use Rattle.tile.proofs.Nth.{from_none, from_here, from_later, from_end}
 use Rattle.tile.proofs.answering.nth_there.Goals as goal
 use Rattle.tile.proofs.answering.nth_there.Goals.{then-is_some+else-before-eq0, else-is_some}
 

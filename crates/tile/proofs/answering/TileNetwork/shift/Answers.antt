@@ -1,10 +1,10 @@
-use Rattle.std.proofs.Common.{◌≡◌, ◌+◌, ◌*◌, ◌/◌, ◌<◌, ◌≤◌, true, Err, refl, length, take, set, sym, ap, ◌∙◌, arith, length-set}
+use Rattle.std.proofs.Common.{◌≡◌, ◌*◌, ◌/◌, ◌<◌, ◌≤◌, true, Err, refl, take, set, ap, ◌∙◌, arith, length-set}
 use Rattle.std.proofs.lemmas.Bool.Decides.{nat_tests}
-use Rattle.std.proofs.lemmas.List.{length-take-le, get_or-take}
+use Rattle.std.proofs.lemmas.List.{length-take-le}
 use Rattle.network.specs.Answers.{done, shift_answer}
 use Rattle.network.specs.declared.refusal.NetworkRefusal.TheVariants.{AboveResidual}
 use Rattle.tile.specs.Grids.{owner, side_of, way_of, joined}
-use Rattle.tile.specs.Pixels.{Small, pair_of, put_pair, residual_of, moved}
+use Rattle.tile.specs.Pixels.{pair_of, put_pair, residual_of, moved}
 use Rattle.tile.specs.Tables.{pixel_at, of_pixels}
 use Rattle.tile.proofs.Changes.{small_at, pair_small, small_moved, table_small, table_moved, table_answer}
 use Rattle.tile.proofs.answering.TileNetwork.shift.Goals as goal

@@ -1,9 +1,9 @@
-use Rattle.std.proofs.Common.{◌≡◌, ◌-◌, ◌*◌, ◌<◌, ◌≤◌, length, take, set, sym, ap, ◌∙◌, subst, arith, length-set}
+use Rattle.std.proofs.Common.{◌≡◌, ◌-◌, ◌*◌, ◌<◌, take, set, ap, ◌∙◌, arith, length-set}
 use Rattle.std.proofs.lemmas.Bool.Decides.{nat_tests}
 use Rattle.std.proofs.lemmas.List.{length-take-le}
 use Rattle.network.specs.Answers.{done, take_answer}
 use Rattle.tile.specs.Pixels.{Small, terminal_of, put_terminal}
-use Rattle.tile.specs.Tables.{pixel_at, of_pixels, AllSmall}
+use Rattle.tile.specs.Tables.{pixel_at, of_pixels}
 use Rattle.tile.proofs.Changes.{table_small, table_put}
 use Rattle.tile.proofs.answering.TileNetwork.take.Goals as goal
 

@@ -1,4 +1,4 @@
-use Rattle.std.proofs.Common.{◌≡◌, length, refl, rules}
+use Rattle.std.proofs.Common.{length, refl, rules}
 use Rattle.tile.specs.Accepted.{Lays}
 use Rattle.tile.proofs.Layings.{laid_table}
 use Rattle.tile.proofs.tile.Tile.lay.Goals as goal
