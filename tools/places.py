@@ -46,7 +46,7 @@ FUNCTION = re.compile(r"\bfn (\w+)(?:<[^(]*?>)?\(([^)]*)\)([^{};]*?)((?:\s*(?:re
 
 
 def sources():
-    return sorted(f for f in glob.glob("crates/*/src/*.rt") if "/cases/" not in f)
+    return sorted(f for f in glob.glob("crates/*/src/*.rt") if "/tests/" not in f)
 
 
 def functions():
