@@ -80,10 +80,10 @@ impl<'a> Call<'a> {
             return Ok(Call::Remark(line));
         }
         let words: Vec<&str> = line.split(' ').collect(heap)?;
-        match *words {
+        match words.as_slice() {
             ["book", records] => Ok(Call::Book(records.parse()?)),
-            ["row", ..] => Ok(Call::Row(cells(heap, &words[1..])?)),
-            ["plan", ..] => Ok(Call::Plan(bytes(heap, &words[1..])?)),
+            ["row", told @ ..] => Ok(Call::Row(cells(heap, told)?)),
+            ["plan", told @ ..] => Ok(Call::Plan(bytes(heap, told)?)),
             ["seal"] => Ok(Call::Seal),
             ["release"] => Ok(Call::Release),
             ["enter" | "need" | "load" | "write" | "entries", ..] => {
@@ -104,7 +104,7 @@ impl<'a> Call<'a> {
 
 impl BookCall {
     fn of(heap: Global, words: &[&str]) -> anyhow::Result<BookCall> {
-        match *words {
+        match words {
             ["enter", earning, cost] => Ok(BookCall::Enter {
                 earning: earning.parse()?,
                 cost: cost.parse()?,
@@ -113,7 +113,7 @@ impl BookCall {
                 entry: entry.parse()?,
                 needed: needed.parse()?,
             }),
-            ["load", ..] => Ok(BookCall::Load(bytes(heap, &words[1..])?)),
+            ["load", told @ ..] => Ok(BookCall::Load(bytes(heap, told)?)),
             ["write", bytes] => Ok(BookCall::Write(bytes.parse()?)),
             ["entries"] => Ok(BookCall::Entries),
             _ => bail!("no such call"),
