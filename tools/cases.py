@@ -644,8 +644,8 @@ def refused_sheets():
     yield from ("40", "80", "c0", "ff", "48", "41", "00 00 80")
     # every bit map
     yield from (f"{bits:02x}" for bits in range(4, 64))
-    # a gap before a cut, and a cut before an amount
-    yield from ("0900", "08000000", "030000000000000f42", "0100", "05000000000001")
+    # a gap before a cut, a cut before an amount, an amount before needs
+    yield from ("08", "0900", "0d0000", "0100", "0300000000", "030000000000000f", "05000000000000", "05000000000001")
     # cut at every byte
     yield from (("00 00 " + whole_record()[:cut].hex()) for cut in range(1, 17))
     # amounts from 1 to 1,000,000, and these before needs
@@ -655,7 +655,7 @@ def refused_sheets():
     for needs in ((1, 0), (0, 0), (2,), (2, 3), (1, 2), (0, 1, 2, 3), (0, 1, 3, 3), (0, 3, 1, 4), (3, 1, 4, 5), (9, 9), (9, 2)):
         yield f"00 00 {4 * (2 ** len(needs) - 1):02x}" + "".join(f"{need:04x}" for need in needs) + " 00*3"
     # needs that are not there, after every fault of a record by itself
-    yield from ("040001", "04ffff", "040009 00 00 40", "040001 040002 00*0", "040001 040008", "00 040001 040003", "0c00010002 00")
+    yield from ("040001", "04ffff", "040009 00 00 40", "040001 040002", "040009 040008", "00 040000 040003", "0c00010002 00")
     yield from ("00*4095 041000", "041000 00*4095", "3c0001000200031000 00*4095")
 
 
@@ -671,7 +671,7 @@ def loading_edges():
         needs = [(2, other) for other in (0, 1, 3, 4)[:size]]
         made = Made([(0, 0), (0, 0), (amounts[size], amounts[-1 - size]), (1, 0), (0, 1)], needs)
         yield from (f"book {made.records}", made.loading(), "entries", f"write {made.length()}", "seal", "finish 7", "release")
-    yield from ("book 6", "load 043001*0 041000*0 040001 00", "entries", "load 00", "entries", "seal", "release")
+    yield from ("book 6", "load 040001 040000", "entries", "load 00", "entries", "seal", "release")
     yield "# load: 4,096 records, and the last of them needed"
     yield from ("book 4098", "load 00*4095 040000", "entries", "seal", "place 0 0", "place 4095 0", "finish 4098", "release")
     yield from ("book 4098", "load 040fff 00*4095", "entries", "seal", "ends 0", "ends 1", "ends 2", "release")
@@ -703,7 +703,7 @@ def writing_edges():
     yield from ("book 9", "enter 1 0", "write 99", "enter 0 1", "write 99", "need 0 1", "write 99", "need 1 0", "write 99", "seal", "finish 4")
     full = record(MOST_AMOUNT, MOST_AMOUNT - 1, [1, 2, 3, 4])
     last = record(MOST_AMOUNT, MOST_AMOUNT - 1, [0, 5, 6, 7])
-    yield f"book 36864"
+    yield "book 36864"
     yield f"load {full.hex()} {last.hex()}*4 {full.hex()}*4091"
     yield from ("entries", "write 69631", "enter 0 0", "need 0 5", "need 4095 0", "seal", "release")
 
@@ -731,7 +731,7 @@ def asking_edges():
     yield from ("take source 4 1", f"take sink 4 {far}", "take source 0 51", "take sink 0 1", "take sink 2 61", f"take sink 2 {2**32}")
     yield from ("shift 6 1", f"shift 6 {far}", f"shift 0 {BINDING + 1}", "shift 1 1", f"shift 3 {far}")
     yield from ("take sink 4 0", "shift 6 0", "take sink 0 0", "shift 1 0", "take source 0 50", "take source 0 1", "take sink 3 1")
-    yield from (f"shift 0 {BINDING}", "shift 0 1", f"shift 1 {BINDING}", f"shift 1 1", "shift 2 7", "shift 3 3", "shift 3 5")
+    yield from (f"shift 0 {BINDING}", "shift 0 1", f"shift 1 {BINDING}", "shift 1 1", "shift 2 7", "shift 3 3", "shift 3 5")
     yield from asking(4, 6)
     yield from ("finish 6", "finish 0", "run 4 0 4", "ends 0", "place 1 1", "take source 4 1", "shift 6 0", "release")
     yield "# questions and changes: a book without needs, and one without entries"
@@ -754,7 +754,7 @@ def lending_edges():
     yield from (f"run {records} {words} {marks}" for records, words, marks in ((3, 900, 3), (3, 900, 4), (4, 900, 3), (0, 0, 0), (3, 0, 9), (9, 0, 3)))
     yield from ("run 4 0 4", "run 3 0 4", "run 4 5 4", "run 9 0 9", "run 4 900 4", "run 4 0 4", "run 3 0 4", "run 4 0 3", "finish 0", "release")
     yield from ("row 5,5,0,0", "run 0 0 0", "run 0 9 1", "run 1 9 0", "run 1 2 1", "run 1 30 1", "finish 0")
-    yield from ("book 4096", "load 0300000002000000020100000007*1 00*4094", "seal", "run 4095 9 4096", "run 4096 9 4095", "run 4096 4097 4096", "finish 4098", "release")
+    yield from ("book 4096", "load 030000000200000002 0100000007 00*4094", "seal", "run 4095 9 4096", "run 4096 9 4095", "run 4096 4097 4096", "finish 4098", "release")
     yield "# runs: trails of no word and more, on books that need none"
     for made in (Made([]), Made([(0, 0)]), Made([(5, 0)]), Made([(0, 5)]), Made([(5, 0), (0, 5)]), Made([(5, 0), (0, 0)], [(0, 1)])):
         yield f"book {made.records}"
@@ -887,6 +887,7 @@ def tiles():
     for pixels in (5, 6, 7):
         yield f"tile {pixels}"
         yield from ("lay 3 2 00*24", "lay 3 2 00*23", "lay 3 2 00*25", "lay 0 2", "lay 3 0", "lay 65 1 00*260", "lay 1 65 00*260")
+        yield from ("lay 65 1 00", "lay 0 1", "lay 4294967296 4294967296 00", f"lay {2**64 - 1} 1", "lay 1 4 01", "lay 3 3 00*35 01")
         yield from ("lay 2 2 0000ff00 00000100 00*8", "lay 2 2 00*8 00000001 00*4", "lay 2 2 00*15 01", "lay 3 3 00*36", "lay 3 3 00*35", "release")
     yield from ("tile 4096", "lay 64 64 01020000*4096", "finish 4098", "lay 64 64 02010000*4096", "finish 4098", "lay 65 64 00*16640", "finish 0")
     yield "# tiles: two pixels, and the penalty between them"
@@ -906,16 +907,20 @@ def tiles():
 
 
 def script():
-    parts = [entering_edges, needing_edges, loading_edges, writing_edges, asking_edges, lending_edges, small_books, random_books, random_rows]
-    for part in parts + [listed, large_books] + [tiles] * TILES:
+    edges = [entering_edges, needing_edges, loading_edges, writing_edges, asking_edges, lending_edges]
+    for part in edges + [small_books, random_books, random_rows, listed, large_books] + ([tiles] if TILES else []):
         yield from part()
 
 
 def main():
-    said = {"script": lambda: script(), "answers": lambda: answers(sys.stdin)}
-    if sys.argv[1:2] not in [[name] for name in said]:
-        sys.exit("usage: python3 tools/cases.py script, or answers <crates/cases/stdin")
-    for line in said[sys.argv[1]]():
+    match sys.argv[1:]:
+        case ["script"]:
+            lines = script()
+        case ["answers"]:
+            lines = answers(sys.stdin)
+        case _:
+            sys.exit("usage: python3 tools/cases.py script, or answers <crates/cases/stdin")
+    for line in lines:
         print(line)
 
 
