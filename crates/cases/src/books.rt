@@ -1,7 +1,7 @@
 // Calls on books: open, then sealed, over the front of one table.
 use super::call::{BookCall, Call};
 use super::networks;
-use super::script::Line;
+use super::script::{Line, before_release};
 use anyhow::bail;
 use book::{OpenBook, Record};
 use network::Network;
@@ -39,14 +39,6 @@ pub(crate) fn play(
         println!(rt; "released {}", table.len())?;
     }
     Ok(())
-}
-
-// The calls before a release at the end, and whether there is one.
-fn before_release<'a, 'b>(calls: &'b [Line<'a>]) -> (&'b [Line<'a>], bool) {
-    match calls.split_last() {
-        Some((last, before)) if matches!(last.call, Call::Release) => (before, true),
-        _ => (calls, false),
-    }
 }
 
 // Makes the calls on an open book.

@@ -20,3 +20,11 @@ pub(crate) fn lines(heap: Global, text: &str) -> anyhow::Result<Vec<Line<'_>>> {
     }
     Ok(lines)
 }
+
+// The calls before a release at the end, and whether there is one.
+pub(crate) fn before_release<'a, 'b>(calls: &'b [Line<'a>]) -> (&'b [Line<'a>], bool) {
+    match calls.split_last() {
+        Some((last, before)) if matches!(last.call, Call::Release) => (before, true),
+        _ => (calls, false),
+    }
+}
