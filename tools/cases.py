@@ -26,8 +26,6 @@ PLAN_BYTES = 8192
 PLAN_RECORDS = 2048
 # all selections of a network of so many nodes are tried
 FEW_NODES = 10
-# tiles wait for their crate: their answers are reckoned, and no script asks for them yet
-TILES = False
 
 LETTERS = {"in": "i", "out": "o", "either": "e"}
 
@@ -772,6 +770,7 @@ def lending_edges():
 
 def small_books():
     yield "# small books"
+    most = MOST_AMOUNT
     books = (
         Made([(5, 5)]),
         Made([(6, 5)]),
@@ -785,9 +784,11 @@ def small_books():
         # ties of ties: pairs that each break even
         Made([(3, 0), (0, 3), (4, 0), (0, 4), (5, 5)], [(0, 1), (2, 3)]),
         Made([(3, 0), (0, 3), (4, 0), (0, 4), (5, 5)], [(0, 1), (2, 3), (4, 0), (3, 4)]),
+        # three jobs whose earnings together pass along one need
+        *(Made([(most, 0)] * 3 + [(0, 0)] * 2 + [(0, most)] * 2 + [(0, last)], [(0, 3), (1, 3), (2, 3), (3, 4), (4, 5), (4, 6), (4, 7)]) for last in (most - 1, most)),
         # both ways
         Made([(3, 0), (0, 3)], [(0, 1), (1, 0)]),
-        Made([(MOST_AMOUNT, 0), (0, MOST_AMOUNT), (MOST_AMOUNT, MOST_AMOUNT), (0, 0)], [(0, 1), (2, 1), (1, 3), (3, 2)]),
+        Made([(most, 0), (0, most), (most, most), (0, 0)], [(0, 1), (2, 1), (1, 3), (3, 2)]),
     )
     for made in books:
         yield from resumed(made, made.entering(), random.Random(made.records))
@@ -837,7 +838,7 @@ def random_books():
 def random_rows():
     chance = random.Random(39)
     yield "# random rows"
-    for size in [*range(2, 11)] * 3 + [40, 150, 400]:
+    for size in [*range(2, 11)] * 3 + [40, 150, 300]:
         most = chance.choice((2, 9, 100, 2**38, 2**40)) if size < 100 else 99
         cells = [",".join(str(chance.choice((0, 1, 1)) * chance.randint(0, most)) for _ in range(4)) for _ in range(size)]
         yield from fixed([" ".join(["row", *cells]), f"run {size} 1 {size}", f"run {size} {size + 2} {size}", f"finish {size + 2 + chance.randrange(9)}"])
@@ -881,15 +882,15 @@ def large_books():
 
 
 def tiles():
-    """Tiles, which the program will lay once their crate is there."""
     chance = random.Random(21)
     yield "# tiles: sizes, lengths, tables and penalties at their edges"
     for pixels in (5, 6, 7):
         yield f"tile {pixels}"
         yield from ("lay 3 2 00*24", "lay 3 2 00*23", "lay 3 2 00*25", "lay 0 2", "lay 3 0", "lay 65 1 00*260", "lay 1 65 00*260")
         yield from ("lay 65 1 00", "lay 0 1", "lay 4294967296 4294967296 00", f"lay {2**64 - 1} 1", "lay 1 4 01", "lay 3 3 00*35 01")
-        yield from ("lay 2 2 0000ff00 00000100 00*8", "lay 2 2 00*8 00000001 00*4", "lay 2 2 00*15 01", "lay 3 3 00*36", "lay 3 3 00*35", "release")
-    yield from ("tile 4096", "lay 64 64 01020000*4096", "finish 4098", "lay 64 64 02010000*4096", "finish 4098", "lay 65 64 00*16640", "finish 0")
+        yield from ("lay 2 2 0000ff00 00000100 00*8", "lay 2 2 00*8 00000001 00*4", "lay 2 2 00*15 01", "lay 3 3 00*36", "lay 3 3 00*35")
+        yield from ("lay 2 1 05090300 07020000", "run 2 1 2", "run 2 4 1", "finish 4", "lay 0 1", "finish 0", "lay 1 2 05090003 07020000", "finish 4", "release")
+    yield from ("tile 4096", "lay 64 64 01020000*4096", "finish 4098", "lay 65 64 00*16640", "finish 0", "release")
     yield "# tiles: two pixels, and the penalty between them"
     for penalty in (3, 1, 0):
         yield from ("tile 2", f"lay 2 1 0207{penalty:02x}00 06050000", "residual source 0", "residual sink 1", "finish 4", "release")
@@ -908,7 +909,7 @@ def tiles():
 
 def script():
     edges = [entering_edges, needing_edges, loading_edges, writing_edges, asking_edges, lending_edges]
-    for part in edges + [small_books, random_books, random_rows, listed, large_books] + ([tiles] if TILES else []):
+    for part in edges + [small_books, random_books, random_rows, tiles, listed, large_books]:
         yield from part()
 
 

@@ -12,10 +12,18 @@ pub(crate) enum Call<'a> {
     Book(usize),
     // a new row of these cells
     Row(Vec<Cell>),
+    // a new tile over a table of so many pixels
+    Tile(usize),
     // a sheet whose best plans are listed
     Plan(Vec<u8>),
     OfBook(BookCall),
     Seal,
+    // what is laid on a tile
+    Lay {
+        width: usize,
+        height: usize,
+        costs: Vec<u8>,
+    },
     OfNetwork(NetworkCall),
     Release,
 }
@@ -84,7 +92,13 @@ impl<'a> Call<'a> {
             ["book", records] => Ok(Call::Book(records.parse()?)),
             ["row", told @ ..] => Ok(Call::Row(cells(heap, told)?)),
             ["plan", told @ ..] => Ok(Call::Plan(bytes(heap, told)?)),
+            ["tile", pixels] => Ok(Call::Tile(pixels.parse()?)),
             ["seal"] => Ok(Call::Seal),
+            ["lay", width, height, told @ ..] => Ok(Call::Lay {
+                width: width.parse()?,
+                height: height.parse()?,
+                costs: bytes(heap, told)?,
+            }),
             ["release"] => Ok(Call::Release),
             ["enter" | "need" | "load" | "write" | "entries", ..] => {
                 Ok(Call::OfBook(BookCall::of(heap, &words)?))
@@ -97,7 +111,7 @@ impl<'a> Call<'a> {
     pub(crate) fn begins_part(&self) -> bool {
         matches!(
             self,
-            Call::Remark(_) | Call::Book(_) | Call::Row(_) | Call::Plan(_)
+            Call::Remark(_) | Call::Book(_) | Call::Row(_) | Call::Tile(_) | Call::Plan(_)
         )
     }
 }

@@ -26,8 +26,8 @@ pub(crate) fn play<N: Network>(
     Ok(())
 }
 
-// Makes one call on a network.
-fn make<N: Network>(
+// Makes one call on a network, of which all runs have gained so much.
+pub(crate) fn make<N: Network>(
     rt: &impl Print,
     heap: Global,
     net: &mut N,
