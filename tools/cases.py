@@ -849,6 +849,9 @@ def listed():
     chance = random.Random(8)
     yield "plan 05000000320002050000001e0002020000003c030000000a0000000a0200000005"
     yield from ("plan", "plan 00", "plan 00*8192", "plan 00*8193", "plan 40*8192", "plan 40*8193", "plan 040001", "plan 00 00 0c00000001")
+    # 228 entries with 910 needs are 2,048 records
+    full = "3c0001000200030004 3c0000000200030004 3c0000000100030004 3c0000000100020004 3c0000000100020003*223 0c00000001"
+    yield from (f"plan {full}", f"plan {full} 00")
     yield from ("plan 00*2049", "plan 040001 00*2046", "plan 040001 00*2045 01000000", "plan 040001 040002 00*2043")
     for size in (1, 2, 5, 9, 30):
         yield "plan " + random_book(chance, size, 50).loading().partition(" ")[2]
