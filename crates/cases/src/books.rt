@@ -2,7 +2,7 @@
 use super::call::{BookCall, Call};
 use super::networks;
 use super::script::{Line, before_release};
-use anyhow::bail;
+use anyhow::{Context, bail};
 use book::{OpenBook, Record};
 use network::Network;
 use std::alloc::Global;
@@ -60,7 +60,9 @@ fn fill(rt: &impl Print, heap: Global, book: &mut OpenBook, calls: &[Line]) -> a
                 Ok(counts) => println!(rt; "loaded {counts}")?,
                 Err(refusal) => println!(rt; "{}", refusal.told())?,
             },
-            BookCall::Write(bytes) => write(rt, heap, book, *bytes)?,
+            BookCall::Write(bytes) => {
+                write(rt, heap, book, *bytes).context(format_args!("line {}", line.number))?;
+            }
             BookCall::Entries => println!(rt;
                 "entries {} needs {} earnings {}",
                 book.entry_count(),

@@ -1,7 +1,7 @@
 // Calls on a network: what is asked, changed and run.
 use super::call::{Call, Lent, NetworkCall};
 use super::script::Line;
-use anyhow::bail;
+use anyhow::{Context, bail};
 use network::{Mark, Network, NetworkRefusal};
 use search::{Outcome, Report, RunRefusal};
 use std::alloc::{AllocError, Global};
@@ -21,7 +21,7 @@ pub(crate) fn play<N: Network>(
         let Call::OfNetwork(call) = &line.call else {
             bail!("line {}: no call on a network", line.number);
         };
-        make(rt, heap, net, *call, &mut gained)?;
+        make(rt, heap, net, *call, &mut gained).context(format_args!("line {}", line.number))?;
     }
     Ok(())
 }

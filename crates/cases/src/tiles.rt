@@ -2,7 +2,7 @@
 use super::call::Call;
 use super::networks;
 use super::script::{Line, before_release};
-use anyhow::bail;
+use anyhow::{Context, bail};
 use network::Network;
 use std::alloc::Global;
 use tile::{Pixel, Tile};
@@ -30,7 +30,13 @@ pub(crate) fn play(
                 }
                 Err(refusal) => println!(rt; "refused {}", refusal.question())?,
             },
-            Call::OfNetwork(call) => networks::make(rt, heap, &mut tile, *call, &mut gained)?,
+            Call::OfNetwork(call) => networks::make(
+                rt,
+                heap,
+                &mut tile,
+                *call,
+                &mut gained,
+            ).context(format_args!("line {}", line.number))?,
             _ => bail!("line {}: no call on a tile", line.number),
         }
     }
