@@ -838,7 +838,7 @@ def random_books():
 def random_rows():
     chance = random.Random(39)
     yield "# random rows"
-    for size in [*range(2, 11)] * 3 + [40, 150, 300]:
+    for size in [*range(2, 11)] * 3 + [40, 150, 200]:
         most = chance.choice((2, 9, 100, 2**38, 2**40)) if size < 100 else 99
         cells = [",".join(str(chance.choice((0, 1, 1)) * chance.randint(0, most)) for _ in range(4)) for _ in range(size)]
         yield from fixed([" ".join(["row", *cells]), f"run {size} 1 {size}", f"run {size} {size + 2} {size}", f"finish {size + 2 + chance.randrange(9)}"])
@@ -899,15 +899,22 @@ def tiles():
         yield from ("tile 2", f"lay 2 1 0207{penalty:02x}00 06050000", "residual source 0", "residual sink 1", "finish 4", "release")
     yield "# tiles: random ones"
     for width, height in [(1, 1), (4, 1), (1, 4), (2, 2), (3, 3), (2, 5), (64, 1), (1, 64), (8, 8), (16, 12)]:
-        most = chance.choice((3, 20, 255))
-        costs = bytes(
-            chance.randint(0, most) if kind < 2 or (kind == 2 and x < width - 1) or (kind == 3 and y < height - 1) else 0
-            for y in range(height)
-            for x in range(width)
-            for kind in range(4)
-        )
-        nodes = width * height
-        yield from (f"tile {nodes}", f"lay {width} {height} {costs.hex()}", f"finish {nodes + 2 + chance.randrange(30)}", "release")
+        yield from random_tile(chance, width, height, chance.choice((3, 20, 255)), (1, 1), 255)
+    yield "# tiles: on which a run that lets no neighbours of a freed node wait tells wrong marks, as was found by trying"
+    for seed in (135, 138, 243, 262):
+        chance = random.Random(seed)
+        width, height = chance.randint(2, 5), chance.randint(2, 5)
+        yield from random_tile(chance, width, height, chance.choice((3, 6, 12)), (0, 0, 1), chance.choice((1, 2, 4, 8)))
+
+
+def random_tile(chance, width, height, dearest, present, widest):
+    """A tile with costs and penalties up to these, some of the costs 0."""
+    costs = bytearray()
+    for y, x in itertools.product(range(height), range(width)):
+        costs += bytes(chance.choice(present) * chance.randint(0, dearest) for _ in range(2))
+        costs += bytes(chance.randint(0, widest) if inside else 0 for inside in (x < width - 1, y < height - 1))
+    nodes = width * height
+    yield from (f"tile {nodes}", f"lay {width} {height} {costs.hex()}", f"finish {nodes + 2 + chance.randrange(30)}", "release")
 
 
 def script():
