@@ -11,9 +11,6 @@ use search::Outcome;
 use std::alloc::{AllocError, Global};
 use trees::Work;
 
-// How many words the trail of each run has, at least.
-const TRAIL_WORDS: usize = 4_096;
-
 // What the cheapest selections of a network cost, and what they say of each node.
 #[derive(PartialEq, Eq, Debug, Drop)]
 pub struct Cut {
@@ -21,15 +18,15 @@ pub struct Cut {
     pub marks: Vec<Mark>,
 }
 
-// The cheapest selections of a network. Runs are repeated until none of their paths is left.
-pub fn cheapest_cut<N: Runs>(heap: Global, net: &mut N) -> Result<Cut, AllocError>
+// The cheapest selections of a network. Runs are repeated until one finishes, each with a trail of so many words, or of as many as one
+// path may need where that is more. A run that pauses begins its trees afresh, so a longer trail makes for fewer runs.
+pub fn cheapest_cut<N: Runs>(heap: Global, net: &mut N, words: usize) -> Result<Cut, AllocError>
     ensures cut { IfOk result (λ cut. CheapestCost (N.value net.old) cut.cost × AllMarked (N.value net.old) (vec_items cut.marks)) }
     ensures kept { N.keeps net.old net.new }
 {
     let nodes = net.node_count();
     let mut work = vec![in heap; Work::blank(); nodes]?;
-    // room for one path at least, so that no run ends where it began
-    let mut trail = vec![in heap; 0; TRAIL_WORDS.max(nodes + 2)]?;
+    let mut trail = vec![in heap; 0; words.max(nodes + 2)]?;
     let mut bytes = vec![in heap; 0; nodes]?;
     let cost = finish(net, &mut work, &mut trail, &mut bytes);
     let marks = read_marks(heap, &bytes)?;

@@ -15,6 +15,9 @@ pub const MOST_BYTES: usize = 8_192;
 // How many records the book's table has.
 const RECORDS: usize = 2_048;
 
+// How many words the trail of each run has.
+const TRAIL_WORDS: usize = 4_096;
+
 // The answer to an input. One that is longer than a sheet may be is refused unread.
 pub fn plan(heap: Global, input: &[u8]) -> Result<Result<Plan, PlanRefusal>, AllocError>
     ensures { IfOk result (λ answer. ThePlan input.now (result_of answer)) }
@@ -30,7 +33,7 @@ pub fn plan(heap: Global, input: &[u8]) -> Result<Result<Plan, PlanRefusal>, All
     };
     let earnings = book.total_earnings();
     let mut sealed = book.seal();
-    let cut = cheapest_cut(heap, &mut sealed)?;
+    let cut = cheapest_cut(heap, &mut sealed, TRAIL_WORDS)?;
     Ok(Ok(Plan {
         counts,
         least: cut.cost,

@@ -11,6 +11,9 @@ use netpbm::Page;
 use std::alloc::{AllocError, Global};
 use tile::{Pixel, Tile};
 
+// How many words the trail of each run has: most areas are cut by one run.
+const TRAIL_WORDS: usize = 65_536;
+
 // The cheapest selections of an area, laid over a table that is long enough.
 pub(crate) fn cut_area(
     heap: Global,
@@ -26,5 +29,5 @@ pub(crate) fn cut_area(
     let costs = area_costs(heap, page, area)?;
     let mut tile = Tile::new(table);
     tile.lay(area.width, area.height, &costs).unwrap();
-    cheapest_cut(heap, &mut tile)
+    cheapest_cut(heap, &mut tile, TRAIL_WORDS)
 }
