@@ -1,4 +1,4 @@
-use Rattle.std.proofs.Common.{◌≡◌, length, ◌∙◌, rules}
+use Rattle.std.proofs.Common.{◌≡◌, length, drop, ◌∙◌, rules}
 use Rattle.std.proofs.lemmas.List.{take_at}
 use Rattle.engine.proofs.Rights.{all_marked, stand_for_marks}
 use Rattle.engine.proofs.cutting.cheapest_cut.Goals as goal
@@ -8,7 +8,7 @@ read_marks-requires g c =
     let v = g.N.Network.value c.args.net.now in
     let wide : length c.finish-cost.new.marks ≡ c.in_ok-bytes.bytes.len = search rules in
     let long : length c.finish-cost.new.marks ≡ v.graph.nodes = search rules in
-    let same = c.deref.ensures.value ∙ take_at c.finish-cost.new.marks _ c.in_ok-bytes.bytes.len wide in
+    let same = c.deref.ensures.value ∙ take_at c.finish-cost.new.marks (drop (length c.finish-cost.new.marks) c.in_ok-bytes.bytes.items) c.in_ok-bytes.bytes.len wide in
     rw same (stand_for_marks v c.finish-cost.new.marks c.finish-cost.ensures.marks long)
 
 pub returns-clause-cut : goal.returns-clause-cut
@@ -16,5 +16,5 @@ returns-clause-cut g c =
     let v = g.N.Network.value c.args.net.now in
     let wide : length c.finish-cost.new.marks ≡ c.in_ok-bytes.bytes.len = search rules in
     let long : length c.finish-cost.new.marks ≡ v.graph.nodes = search rules in
-    let same = c.deref.ensures.value ∙ take_at c.finish-cost.new.marks _ c.in_ok-bytes.bytes.len wide in
+    let same = c.deref.ensures.value ∙ take_at c.finish-cost.new.marks (drop (length c.finish-cost.new.marks) c.in_ok-bytes.bytes.items) c.in_ok-bytes.bytes.len wide in
     (c.finish-cost.ensures.least, all_marked v c.finish-cost.new.marks _ c.finish-cost.ensures.marks long (c.in_ok-marks.ensures ∙ same))

@@ -11,8 +11,9 @@ loop-gain-init g c = ((0, none (g.N.Network.lawful c.args.net.now)), g.N.Network
 pub unwrap-report-requires : goal.unwrap-report-requires
 unwrap-report-requires g c =
     let lent : Lent = record { work = c.loop-gain.work; trail = c.loop-gain.trail; marks = c.loop-gain.marks } in
-    let same = same_nodes _ _ _ c.loop-gain.invariant.0 in
-    accepted _ _ lent _ c.run.result (omega (arith, same, c.requires.records, c.loop-gain.auto.work)) (omega (arith, same, c.requires.bytes, c.loop-gain.auto.marks)) c.run.ensures.ran
+    let after : Lent = record { work = c.run.new.work; trail = c.run.new.trail; marks = c.run.new.marks } in
+    let same = same_nodes (g.N.Network.value c.args.net.now) (g.N.Network.value c.loop-gain.net) c.loop-gain.gain c.loop-gain.invariant.0 in
+    accepted (g.N.Network.value c.loop-gain.net) (g.N.Network.value c.run.new.self) lent after c.run.result (omega (arith, same, c.requires.records, c.loop-gain.auto.work)) (omega (arith, same, c.requires.bytes, c.loop-gain.auto.marks)) c.run.ensures.ran
 
 pub overflow_add-gain : goal.overflow_add-gain
 overflow_add-gain g c =
