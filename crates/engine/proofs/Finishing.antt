@@ -12,12 +12,9 @@ use Rattle.search.specs.declared.report.Report.{Report}
 use Rattle.search.specs.Runs.{Lent, MarksOf, refused, Run, Runs}
 use Rattle.search.specs.Runs.Runs.{none, then}
 use Rattle.search.specs.Trails.{everything}
+use Rattle.engine.specs.Gains.{Gained}
 use Rattle.search.proofs.Logs.{dear}
 use Rattle.search.proofs.Promises.{runs_lower, promised}
-
--- runs led from v to w, and gained g
-abbrev pub Gained : Net → Net → ℕ → Type 0
-Gained v w g = (k : ℕ) × Runs v w g k
 
 -- which has as many nodes
 pub same_nodes : (v w : Net) (g : ℕ) → Gained v w g → w.graph.nodes ≡ v.graph.nodes

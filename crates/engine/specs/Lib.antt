@@ -6,3 +6,4 @@ pub mod Refusals
 pub mod Plans
 pub mod Listings
 pub mod Histories
+pub mod Gains

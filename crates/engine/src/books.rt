@@ -5,13 +5,13 @@ ghost use Rattle.book.specs.Calls.{StillSealed};
 ghost use Rattle.book.specs.Values.{sealed_of, sealed_value};
 ghost use Rattle.engine.specs.Histories.{BookPromise};
 
-use super::running::Runs;
+use super::running::Runnable;
 use book::SealedBook;
 use search::{Report, RunRefusal};
 use trees::Work;
 
 // What a run of a sealed book promises holds of every list of calls on the book that led to it.
-impl<'a> Runs for SealedBook<'a> {
+impl<'a> Runnable for SealedBook<'a> {
     fn run(
         &mut self,
         work: &mut [Work],

@@ -4,8 +4,9 @@ ghost use Rattle.network.specs.declared.mark.Mark.{Mark as TheMark};
 ghost use Rattle.network.specs.Marks.{mark_byte};
 ghost use Rattle.network.specs.Cuts.{CheapestCost, AllMarked};
 ghost use Rattle.search.specs.Runs.{MarksOf};
+ghost use Rattle.engine.specs.Gains.{Gained, RunsLed};
 
-use super::running::Runs;
+use super::running::Runnable;
 use network::Mark;
 use search::Outcome;
 use std::alloc::{AllocError, Global};
@@ -20,8 +21,9 @@ pub struct Cut {
 
 // The cheapest selections of a network. Runs are repeated until one finishes, each with a trail of so many words, or of as many as one
 // path may need where that is more. A run that pauses begins its trees afresh, so a longer trail makes for fewer runs.
-pub fn cheapest_cut<N: Runs>(heap: Global, net: &mut N, words: usize) -> Result<Cut, AllocError>
+pub fn cheapest_cut<N: Runnable>(heap: Global, net: &mut N, words: usize) -> Result<Cut, AllocError>
     ensures cut { IfOk result (λ cut. CheapestCost (N.value net.old) cut.cost × AllMarked (N.value net.old) (vec_items cut.marks)) }
+    ensures runs { RunsLed (N.value net.old) (N.value net.new) result }
     ensures kept { N.keeps net.old net.new }
 {
     let nodes = net.node_count();
@@ -34,11 +36,12 @@ pub fn cheapest_cut<N: Runs>(heap: Global, net: &mut N, words: usize) -> Result<
 }
 
 // Repeats runs until one finishes, and answers what all of them gained.
-fn finish<N: Runs>(net: &mut N, work: &mut [Work], trail: &mut [u64], marks: &mut [u8]) -> u64
+fn finish<N: Runnable>(net: &mut N, work: &mut [Work], trail: &mut [u64], marks: &mut [u8]) -> u64
     requires records { (N.value net.old).graph.nodes ≤ length work.old }
     requires words { (N.value net.old).graph.nodes + 2 ≤ length trail.old }
     requires bytes { (N.value net.old).graph.nodes ≤ length marks.old }
     ensures least { CheapestCost (N.value net.old) result }
+    ensures runs { Gained (N.value net.old) (N.value net.new) result }
     ensures marks { MarksOf (N.value net.old) (N.value net.old).graph.nodes marks.new }
     ensures kept { N.keeps net.old net.new }
 {

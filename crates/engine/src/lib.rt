@@ -16,5 +16,5 @@ pub use cutting::{Cut, cheapest_cut};
 pub use page::Listing;
 pub use planning::{MOST_BYTES, plan};
 pub use refusal::PlanRefusal;
-pub use running::Runs;
+pub use running::Runnable;
 pub use telling::listing;

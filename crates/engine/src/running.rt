@@ -7,7 +7,7 @@ use search::{Report, RunRefusal};
 use trees::Work;
 
 // A network with a run of its own, which may promise more than that of any network.
-pub trait Runs: Network {
+pub trait Runnable: Network {
     fn run(
         &mut self,
         work: &mut [Work],

@@ -5,13 +5,13 @@ ghost use Rattle.tile.specs.Calls.{StillLaid};
 ghost use Rattle.tile.specs.Values.{tile_of, tile_value};
 ghost use Rattle.engine.specs.Histories.{TilePromise};
 
-use super::running::Runs;
+use super::running::Runnable;
 use search::{Report, RunRefusal};
 use tile::Tile;
 use trees::Work;
 
 // What a run of a tile promises holds of every list of lays and runs on the tile that led to it.
-impl<'a> Runs for Tile<'a> {
+impl<'a> Runnable for Tile<'a> {
     fn run(
         &mut self,
         work: &mut [Work],

@@ -1,5 +1,5 @@
 -- The only path of a network of one node, and a trail too short for a path that is left.
-use Rattle.std.proofs.Common.{◌≡◌, ℕ, zero, ◌+◌, ◌<◌, Bool, true, false, ◌&&◌, ltb, eqb, List, [], ◌∷◌, None, sym, refl, subst, subst₂, arith}
+use Rattle.std.proofs.Common.{◌≡◌, ℕ, zero, ◌+◌, ◌<◌, Bool, true, false, ◌&&◌, ltb, eqb, List, [], ◌∷◌, None, sym, refl, ◌∙◌, subst, subst₂, arith}
 use Rattle.std.proofs.ByRecursion.{all-has}
 use Rattle.std.proofs.lemmas.Bool.{and_parts, ltb-true, eqb-true, false≢true}
 use Rattle.std.specs.List.{AllByRecursion}
@@ -8,14 +8,15 @@ use Rattle.network.specs.declared.mark.Mark.{Mark}
 use Rattle.network.specs.Nets.{Graph, Net, Lawful}
 use Rattle.network.specs.Cuts.{CheapestCost}
 use Rattle.network.specs.Paths.{Path, Chain, on_the_way, Augmenting, carried}
+use Rattle.search.specs.Trails.{node_path}
 use Rattle.network.proofs.Lists.{distinct_one}
 use Rattle.network.proofs.Carrying.{path_lowers}
 use Rattle.network.proofs.Duality.{path_left}
 use Rattle.smallcases.specs.Cases.{Besides, OnlyPath, Also}
-use Rattle.smallcases.specs.Cases.Besides.{nothing_else, only_path, short_trail}
+use Rattle.smallcases.specs.Cases.Besides.{nothing_else, no_path, only_path, short_trail}
 use Rattle.smallcases.proofs.Codes.{FewCodes}
 use Rattle.smallcases.proofs.Judging.{Judged, judged_cost}
-use Rattle.smallcases.proofs.Running.{pauses_at_once, finishes}
+use Rattle.smallcases.proofs.Running.{pauses_at_once, finishes_at_once, finishes}
 
 -- v has one node and no arc, and x can be sent to the node and from it
 record OneNode (v : Net) (x : ℕ) : Type 0 where
@@ -25,11 +26,7 @@ record OneNode (v : Net) (x : ℕ) : Type 0 where
   sink : v.terminal Sink 0 ≡ x
   some : 0 < x
 
--- the path of node 0 alone
-abbrev node_path : ℕ → Path
-node_path x = record { amount = x; first = 0; arcs = [] }
-
-node_augmenting : (v : Net) (x : ℕ) → OneNode v x → Augmenting v (node_path x)
+node_augmenting : (v : Net) (x : ℕ) → OneNode v x → Augmenting v (node_path 0 x)
 node_augmenting v x one = record {
   there = omega (arith, one.nodes);
   chain = tt;
@@ -43,7 +40,7 @@ no_chain : (g : Graph) (u : ℕ) (arcs : List ℕ) → ((a : ℕ) → g.ends a �
 no_chain g u [] none c = refl
 no_chain g u (a ∷ more) none (e, is, _, _) = cc (none a)
 
-node_only : (v : Net) (x : ℕ) (p : Path) → OneNode v x → Augmenting v p → p ≡ node_path x
+node_only : (v : Net) (x : ℕ) (p : Path) → OneNode v x → Augmenting v p → p ≡ node_path 0 x
 node_only v x p one h =
     let first : p.first ≡ 0 = omega (arith, h.there, one.nodes) in
     let arcs = no_chain v.graph p.first p.arcs one.no_arc h.chain in
@@ -60,15 +57,15 @@ last_path v p l (X, cheapest, is) h q left =
 one_node : (v : Net) (x : ℕ) → Lawful v → CheapestCost v x → OneNode v x → OnlyPath v (0 ∷ x ∷ 0 ∷ [])
 one_node v x l least one =
     let h = node_augmenting v x one in
-    let only : (p : Path) → Augmenting v p → p ≡ node_path x = λ p. node_only v x p one in
-    let last = last_path v (node_path x) l least h in
+    let only : (p : Path) → Augmenting v p → p ≡ node_path 0 x = λ p. node_only v x p one in
+    let last = last_path v (node_path 0 x) l least h in
     record {
-      path = node_path x;
+      path = node_path 0 x;
       words_are = refl;
       augmenting = h;
       only = only;
       last = last;
-      runs = finishes v (node_path x) h only last;
+      runs = finishes v (node_path 0 x) h only last;
     }
 
 -- whether x is the cheapest cost c of a network of one node with no code below k, and all that can be sent there
@@ -82,6 +79,7 @@ only_path_test v k c _ = false
 -- whether what is said besides holds of v, whose codes are below k and whose cheapest cost is c
 abbrev pub also_test : Net → ℕ → ℕ → Besides → Bool
 also_test v k c nothing_else = true
+also_test v k c no_path = eqb c 0
 also_test v k c (only_path words) = only_path_test v k c words
 also_test v k c (short_trail words) = ltb 0 c && ltb words (v.graph.nodes + 2)
 
@@ -106,6 +104,11 @@ only_path_by_test v k c _ few least h = absurd (false≢true h)
 
 pub also_by_test : (v : Net) (k c : ℕ) (marks : List Mark) (b : Besides) → FewCodes v k → Judged v c marks → also_test v k c b ≡ true → Also v b
 also_by_test v k c marks nothing_else few j h = tt
+also_by_test v k c marks no_path few j h =
+    let free : c ≡ 0 = eqb-true c 0 h in
+    let (X, _, is) = judged_cost v c marks j in
+    let none : (p : Path) → Augmenting v p → ⊥ = λ p left. (path_left v few.lawful).0 (p, left) X (is ∙ free) in
+    record { none = none; runs = finishes_at_once v none }
 also_by_test v k c marks (only_path words) few j h = only_path_by_test v k c words few (judged_cost v c marks j) h
 also_by_test v k c marks (short_trail words) few j h =
     let (some, short) = and_parts (ltb 0 c) (ltb words (v.graph.nodes + 2)) h in

@@ -43,6 +43,15 @@ pauses_at_once v words (p, h) few = each_run v (λ size. size ≡ words) Paused 
     by Paused w before after used same stopped = refl
     by Finished w before after used same (no_path, _) = absurd (no_path p (rw same h))
 
+-- no path at all
+pub finishes_at_once : (v : Net) → ((p : Path) → Augmenting v p → ⊥) → EachRun v (λ size. Unit {0}) (report_of Finished 0 []) []
+finishes_at_once v none = each_run v (λ size. Unit {0}) Finished 0 [] refl (λ before after r w ps size ran. by r.outcome w before after r.log.words ps ran.logged.successive ran.logged.value ran.stopped)
+  where
+    by : (o : Outcome) (w : Net) (before after : Lent) (used : ℕ) (ps : List Path) → Successive v ps → w ≡ carried_all v ps → Stopped o v w before after used → (o ≡ Finished) × (ps ≡ [])
+    by o w before after used (p ∷ ps) (first, _) is stopped = absurd (none p first)
+    by Finished w before after used [] successive is stopped = (refl, refl)
+    by Paused w before after used [] successive is ((q, left), _, _) = absurd (none q (subst (λ x. Augmenting x q) is left))
+
 -- a trail with room for the only path
 pub finishes : (v : Net) (path : Path) → Augmenting v path → ((p : Path) → Augmenting v p → p ≡ path) → ((p : Path) → Augmenting (carried v path) p → ⊥) → EachRun v (λ size. v.graph.nodes + 2 ≤ size) (report_of Finished path.amount (path ∷ [])) (trail_words (path ∷ []))
 finishes v path h only last = each_run v (λ size. v.graph.nodes + 2 ≤ size) Finished path.amount (path ∷ []) (omega arith) (λ before after r w ps size ran.

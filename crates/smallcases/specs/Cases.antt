@@ -27,6 +27,8 @@ network (a_tile w h bytes) = tile_network w h bytes
 -- what is said of a case besides its cheapest cost and its marks
 pub data Besides : Type 0 where
   nothing_else : Besides
+  -- there is no path, so every run finishes at once
+  no_path : Besides
   -- the words of its only path
   only_path : List ℕ → Besides
   -- a trail of so many words, too short for a run to carry out the path that is left
@@ -46,6 +48,11 @@ pub record OnlyPath (v : Net) (words : List ℕ) : Type 0 where
   pub last : (p : Path) → Augmenting (carried v path) p → ⊥
   pub runs : EachRun v (λ size. v.graph.nodes + 2 ≤ size) (record { outcome = Finished; log = record { paths = 1; gain = path.amount; words = length words } }) words
 
+-- there is no augmenting path; a run finishes, having carried out no path and gained nothing, whatever trail it is lent
+pub record NoPath (v : Net) : Type 0 where
+  pub none : (p : Path) → Augmenting v p → ⊥
+  pub runs : EachRun v (λ size. Unit {0}) (record { outcome = Finished; log = no_log }) []
+
 -- a path is left, and a trail of so many words has fewer than the n + 2 with which a run goes on; so a run pauses, having carried out
 -- no path and gained nothing
 pub record TooShort (v : Net) (words : ℕ) : Type 0 where
@@ -55,6 +62,7 @@ pub record TooShort (v : Net) (words : ℕ) : Type 0 where
 
 abbrev pub Also : Net → Besides → Type 0
 Also v nothing_else = Unit {0}
+Also v no_path = NoPath v
 Also v (only_path words) = OnlyPath v words
 Also v (short_trail words) = TooShort v words
 
@@ -93,7 +101,7 @@ two_pixels p = a_tile 2 1 (2 ∷ 7 ∷ p ∷ 0 ∷ 6 ∷ 5 ∷ 0 ∷ 0 ∷ [])
 
 abbrev pub table : List Case
 table =
-    row (a_book empty) 0 [] nothing_else
+    row (a_book empty) 0 [] no_path
     ∷ row (one_entry 0 0) 0 (Either ∷ []) nothing_else
     ∷ row (one_entry 5 5) 5 (Either ∷ []) (only_path (0 ∷ 5 ∷ 0 ∷ []))
     ∷ row (one_entry 5 0) 0 (In ∷ []) nothing_else

@@ -6,6 +6,6 @@ ghost use Rattle.std.specs.List.{AllByRecursion};
 ghost use Rattle.smallcases.specs.Cases.{Holds, table};
 
 // Every row of the table holds. The contract is the theorem, and the body does nothing.
-pub fn small_cases()
+fn small_cases()
     ensures { AllByRecursion Holds table }
 {}

@@ -46,3 +46,8 @@ pub loop-gain-preserved : goal.loop-gain-preserved
 loop-gain-preserved g c =
     let ran = rw c.unwrap-report.ensures at c.run.ensures.ran in
     (gained_more _ _ _ _ _ _ c.unwrap-report.result c.loop-gain.invariant.0 ran, g.N.Network.keeping.then _ _ _ c.loop-gain.invariant.1 c.run.ensures.kept)
+
+pub returns-then-eq-clause-runs : goal.returns-then-eq-clause-runs
+returns-then-eq-clause-runs g c =
+    let ran = rw c.unwrap-report.ensures at c.run.ensures.ran in
+    gained_more _ _ _ _ _ _ c.unwrap-report.result c.loop-gain.invariant.0 ran

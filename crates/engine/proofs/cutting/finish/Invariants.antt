@@ -1,6 +1,6 @@
 use Rattle.network.specs.Cuts.{cost}
 use Rattle.search.specs.Trails.{everything}
-use Rattle.engine.proofs.Finishing.{Gained}
+use Rattle.engine.specs.Gains.{Gained}
 use Rattle.engine.proofs.cutting.finish.Given as goal
 
 -- what every selection costs falls with each run that pauses
