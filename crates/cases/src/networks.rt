@@ -100,6 +100,7 @@ impl Loan {
 
     // Runs until one finishes, or pauses and has gained nothing.
     fn run_on<N: Network>(&mut self, net: &mut N, gained: &mut u64) -> Result<Outcome, RunRefusal> {
+        // counted, since no clause here says that runs which gain come to an end
         for _ in 0..u64::MAX {
             let report = self.run(net, gained)?;
             if report.outcome == Outcome::Finished || report.log.gain == 0 {
