@@ -274,7 +274,7 @@ def terminal(network, word):
     return {"source": network.source, "sink": network.sink}[word]
 
 
-def residual(network, word, node):
+def terminal_residual(network, word, node):
     ask(27, node < network.count)
     still(network)
     return f"residual {terminal(network, word)[node]}"
@@ -291,10 +291,10 @@ def ends(network, arc):
     return "ends {} {} {}".format(*network.arcs[arc])
 
 
-def rest(network, arc):
+def arc_residual(network, arc):
     ask(28, arc in network.arcs)
     still(network)
-    return f"rest {network.arcs[arc][3]}"
+    return f"residual {network.arcs[arc][3]}"
 
 
 def take(network, word, node, amount):
@@ -512,17 +512,16 @@ class Player:
         self.network = self.tile.network
         return laid
 
-    def call_residual(self, word, node):
-        return residual(self.network, word, int(node))
+    def call_residual(self, word, number):
+        if word == "arc":
+            return arc_residual(self.network, int(number))
+        return terminal_residual(self.network, word, int(number))
 
     def call_place(self, *words):
         return place(self.network, *numbers(words))
 
     def call_ends(self, arc):
         return ends(self.network, int(arc))
-
-    def call_rest(self, arc):
-        return rest(self.network, int(arc))
 
     def call_take(self, word, node, amount):
         return take(self.network, word, int(node), int(amount))
@@ -715,7 +714,7 @@ def asking(nodes, arcs):
         yield from (f"residual source {node}", f"residual sink {node}")
         yield from (f"place {node} {at}" for at in range(4))
     for arc in range(arcs + 1):
-        yield from (f"ends {arc}", f"rest {arc}")
+        yield from (f"ends {arc}", f"residual arc {arc}")
 
 
 def asking_edges():
@@ -725,7 +724,7 @@ def asking_edges():
     yield from SHOP.entering()
     yield "seal"
     yield from asking(4, 6)
-    yield from (f"residual source {far}", f"place {far} 0", f"place 0 {far}", f"ends {far}", f"rest {far}")
+    yield from (f"residual source {far}", f"place {far} 0", f"place 0 {far}", f"ends {far}", f"residual arc {far}")
     yield from ("take source 4 1", f"take sink 4 {far}", "take source 0 51", "take sink 0 1", "take sink 2 61", f"take sink 2 {2**32}")
     yield from ("shift 6 1", f"shift 6 {far}", f"shift 0 {BINDING + 1}", "shift 1 1", f"shift 3 {far}")
     yield from ("take sink 4 0", "shift 6 0", "take sink 0 0", "shift 1 0", "take source 0 50", "take source 0 1", "take sink 3 1")
@@ -738,10 +737,10 @@ def asking_edges():
     yield "# questions and changes: rows"
     yield from ("row 9,0,3,1 2,0,8,0 0,7,5,6", *asking(3, 4), "take sink 2 8", "take sink 2 7", "shift 1 2", "shift 1 1", "shift 4 0")
     yield from ("take source 3 0", *asking(3, 4), "finish 5")
-    yield from (f"row {far},{2**39},{2**39 + 1},{2**39 - 1} {2**39 + 1},{far},{far},{far}", *asking(2, 2), f"shift 0 {2**39}", "rest 1", "finish 9")
+    yield from (f"row {far},{2**39},{2**39 + 1},{2**39 - 1} {2**39 + 1},{far},{far},{far}", *asking(2, 2), f"shift 0 {2**39}", "residual arc 1", "finish 9")
     yield from ("row 5,6,7,8", *asking(1, 0), "finish 3", "row", *asking(0, 0), "finish 0")
     yield "# questions and changes: a row of more cells than nodes"
-    yield from ("row 0,0,1,2*4095 0,0,3,4 9,9,9,9*3", "residual source 4096", "place 4095 0", "place 4095 1", "rest 8189", "rest 8190", "finish 4098")
+    yield from ("row 0,0,1,2*4095 0,0,3,4 9,9,9,9*3", "residual source 4096", "place 4095 0", "place 4095 1", "residual arc 8189", "residual arc 8190", "finish 4098")
 
 
 def lending_edges():

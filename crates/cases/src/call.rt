@@ -43,7 +43,7 @@ pub(crate) enum BookCall {
 // A call on a network.
 #[derive(Clone, Copy, Debug)]
 pub(crate) enum NetworkCall {
-    Residual {
+    TerminalResidual {
         terminal: Terminal,
         node: usize,
     },
@@ -54,7 +54,7 @@ pub(crate) enum NetworkCall {
     Ends {
         arc: usize,
     },
-    Rest {
+    ArcResidual {
         arc: usize,
     },
     Take {
@@ -138,7 +138,8 @@ impl BookCall {
 impl NetworkCall {
     fn of(words: &[&str]) -> anyhow::Result<NetworkCall> {
         match *words {
-            ["residual", at, node] => Ok(NetworkCall::Residual {
+            ["residual", "arc", arc] => Ok(NetworkCall::ArcResidual { arc: arc.parse()? }),
+            ["residual", at, node] => Ok(NetworkCall::TerminalResidual {
                 terminal: terminal(at)?,
                 node: node.parse()?,
             }),
@@ -147,7 +148,6 @@ impl NetworkCall {
                 place: place.parse()?,
             }),
             ["ends", arc] => Ok(NetworkCall::Ends { arc: arc.parse()? }),
-            ["rest", arc] => Ok(NetworkCall::Rest { arc: arc.parse()? }),
             ["take", at, node, amount] => Ok(NetworkCall::Take {
                 terminal: terminal(at)?,
                 node: node.parse()?,

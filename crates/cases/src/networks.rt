@@ -35,10 +35,10 @@ pub(crate) fn make<N: Network>(
     gained: &mut u64,
 ) -> anyhow::Result<()> {
     match call {
-        NetworkCall::Residual { terminal, node } => match net.terminal_residual(terminal, node) {
-            Ok(residual) => println!(rt; "residual {residual}")?,
-            Err(refusal) => refused(rt, refusal)?,
+        NetworkCall::TerminalResidual { terminal, node } => {
+            residual(rt, net.terminal_residual(terminal, node))?
         },
+        NetworkCall::ArcResidual { arc } => residual(rt, net.arc_residual(arc))?,
         NetworkCall::Place { node, place } => match net.arc_at(node, place) {
             Ok(Some(arc)) => println!(rt; "arc {arc}")?,
             Ok(None) => println!(rt; "no arc")?,
@@ -46,10 +46,6 @@ pub(crate) fn make<N: Network>(
         },
         NetworkCall::Ends { arc } => match net.arc_ends(arc) {
             Ok((tail, head, reverse)) => println!(rt; "ends {tail} {head} {reverse}")?,
-            Err(refusal) => refused(rt, refusal)?,
-        },
-        NetworkCall::Rest { arc } => match net.arc_residual(arc) {
-            Ok(residual) => println!(rt; "rest {residual}")?,
             Err(refusal) => refused(rt, refusal)?,
         },
         NetworkCall::Take {
@@ -68,6 +64,14 @@ pub(crate) fn make<N: Network>(
         NetworkCall::Finish { words } => finish(rt, heap, net, words, gained)?,
     }
     Ok(())
+}
+
+// A residual that was asked for.
+fn residual(rt: &impl Print, answer: Result<u64, NetworkRefusal>) -> io::Result<()> {
+    match answer {
+        Ok(residual) => println!(rt; "residual {residual}"),
+        Err(refusal) => refused(rt, refusal),
+    }
 }
 
 fn refused(rt: &impl Print, refusal: NetworkRefusal) -> io::Result<()> {
