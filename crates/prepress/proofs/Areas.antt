@@ -53,6 +53,21 @@ below_inside w h v a on inside more =
     let there = pixel_row w h v a on inside in
     omega (arith, mul-add-lt (a.top + v / a.width + 1) w (a.left + v % a.width) h (omega (arith, on.rows)) there.1)
 
+-- the neighbours on the area are the neighbours on the page
+pub right_place : (w v : ℕ) (a : Area) → v % a.width + 1 < a.width → place w a (v + 1) ≡ place w a v + 1
+right_place w v a more =
+    let next : v + 1 ≡ v / a.width * a.width + (v % a.width + 1) = omega (arith, mod-add-div' v a.width) in
+    let row : (v + 1) / a.width ≡ v / a.width = ap (λ k. k / a.width) next ∙ div-mul-add (v / a.width) a.width (v % a.width + 1) more in
+    let column : (v + 1) % a.width ≡ v % a.width + 1 = ap (λ k. k % a.width) next ∙ mod-mul-add (v / a.width) a.width (v % a.width + 1) more in
+    rw (row, column) (omega arith)
+
+pub below_place : (w v : ℕ) (a : Area) → v % a.width < a.width → place w a (v + a.width) ≡ place w a v + w
+below_place w v a inside =
+    let next : v + a.width ≡ (v / a.width + 1) * a.width + v % a.width = omega (arith, mod-add-div' v a.width) in
+    let row : (v + a.width) / a.width ≡ v / a.width + 1 = ap (λ k. k / a.width) next ∙ div-mul-add (v / a.width + 1) a.width (v % a.width) inside in
+    let column : (v + a.width) % a.width ≡ v % a.width = ap (λ k. k % a.width) next ∙ mod-mul-add (v / a.width + 1) a.width (v % a.width) inside in
+    rw (row, column) (omega arith)
+
 -- the row and the column of a pixel on the page follow from its number there
 rows_of : (w h v : ℕ) (a : Area) → OnPage w h a → v < pixels a → (place w a v / w ≡ a.top + v / a.width) × (place w a v % w ≡ a.left + v % a.width)
 rows_of w h v a on inside =

@@ -1,5 +1,6 @@
 pub mod Areas
 pub mod Costs
+pub mod Energies
 pub mod Bests
 pub mod Blackening
 pub mod Pages

@@ -1,5 +1,5 @@
 -- How a page is cut into areas of at most 64 by 64 pixels, row by row from the top.
-use Rattle.std.specs.Prelude.{◌≡◌, ℕ, ◌+◌, ◌-◌, ◌*◌, ◌/◌, ◌%◌, ◌<◌, ◌≤◌, min}
+use Rattle.std.specs.Prelude.{◌≡◌, ℕ, ◌+◌, ◌-◌, ◌*◌, ◌/◌, ◌%◌, ◌<◌, ◌≤◌, min, Bool, nat_lt}
 use Rattle.std.specs.Int.{div_ceil}
 use Rattle.prepress.specs.declared.area.Area.{Area}
 
@@ -31,6 +31,13 @@ pixels a = a.width * a.height
 -- the number that pixel v of an area has on a page w wide
 abbrev pub place : ℕ → Area → ℕ → ℕ
 place w a v = (a.top + v / a.width) * w + (a.left + v % a.width)
+
+-- whether pixel v has a neighbour at the right on the area, v + 1, and one below, v + a.width
+abbrev pub has_right : Area → ℕ → Bool
+has_right a v = nat_lt (v % a.width + 1) a.width
+
+abbrev pub has_below : Area → ℕ → Bool
+has_below a v = nat_lt (v / a.width + 1) a.height
 
 -- an area has pixels, at most 64 by 64, and lies on a page w wide and h high
 pub record OnPage (w h : ℕ) (a : Area) : Type 0 where

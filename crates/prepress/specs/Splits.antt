@@ -1,17 +1,33 @@
 -- How an area of a page, and the whole page, are split into lines and tones.
-use Rattle.std.specs.Prelude.{◌≡◌, ℕ, ◌*◌, ◌<◌, ◌≤◌, Bool, true, false, ◌&&◌, List, length, nat_lt, slice_index_or}
+use Rattle.std.specs.Prelude.{◌≡◌, ℕ, ◌+◌, ◌*◌, ◌<◌, ◌≤◌, Bool, cond, true, false, ◌&&◌, List, length, nat_lt, slice_index_or}
 use Rattle.network.specs.declared.mark.Mark.{Mark}
 use Rattle.network.specs.declared.mark.Mark.TheVariants.{In, Out, Either}
 use Rattle.network.specs.Cuts.{Selection, sum_below}
-use Rattle.tile.specs.Tiles.{energy}
+use Rattle.tile.specs.Tiles.{energy, differ}
 use Rattle.netpbm.specs.Images.{Image}
 use Rattle.prepress.specs.declared.area.Area.{Area}
-use Rattle.prepress.specs.Areas.{areas, area_of, pixels, place}
-use Rattle.prepress.specs.Greys.{area_costs}
+use Rattle.prepress.specs.Areas.{areas, area_of, pixels, place, has_right, has_below}
+use Rattle.prepress.specs.Greys.{line_cost, tone_cost, penalty, grey_of, area_costs}
 
--- what a selection of an area's pixels as lines costs
+-- what a selection of an area's pixels as lines costs, as it is laid on a tile; EnergyAddsUp says what that comes to
 abbrev pub area_energy : Image → Area → Selection → ℕ
 area_energy i a X = energy a.width a.height (area_costs i a) X
+
+-- the cost of each pixel, as line or as tone
+abbrev pub costs_of : Image → Area → Selection → ℕ
+costs_of i a X = sum_below (pixels a) (λ v. cond (X v) (line_cost (grey_of i a v)) (tone_cost (grey_of i a v)))
+
+-- the penalty of each pixel and its neighbour at the right, where it has one and one of the two is line and the other tone
+abbrev pub penalties_right : Image → Area → Selection → ℕ
+penalties_right i a X = sum_below (pixels a) (λ v. cond (has_right a v && differ (X v) (X (v + 1))) (penalty (grey_of i a v) (grey_of i a (v + 1))) 0)
+
+-- the same of its neighbour below
+abbrev pub penalties_below : Image → Area → Selection → ℕ
+penalties_below i a X = sum_below (pixels a) (λ v. cond (has_below a v && differ (X v) (X (v + a.width))) (penalty (grey_of i a v) (grey_of i a (v + a.width))) 0)
+
+-- these together are the energy of every selection of every area
+abbrev pub EnergyAddsUp : Image → Type 0
+EnergyAddsUp i = (a : Area) (X : Selection) → area_energy i a X ≡ costs_of i a X + penalties_right i a X + penalties_below i a X
 
 abbrev pub LeastEnergy : Image → Area → Selection → Type 0
 LeastEnergy i a X = (Y : Selection) → area_energy i a X ≤ area_energy i a Y

@@ -3,7 +3,7 @@ ghost use Rattle.std.specs.Prelude.{◌≡◌, ◌≤◌, ◌*◌, IfOk, length,
 ghost use Rattle.netpbm.specs.Values.{image_of};
 ghost use Rattle.prepress.specs.Areas.{OnPage, pixels};
 ghost use Rattle.prepress.specs.Cuts.{Blackened};
-ghost use Rattle.prepress.specs.Splits.{is_line, SplitOf, OnlySplit};
+ghost use Rattle.prepress.specs.Splits.{is_line, SplitOf, OnlySplit, EnergyAddsUp};
 
 use super::area::{Area, areas};
 use super::cutting::cut_area;
@@ -48,8 +48,10 @@ const RECORDS: usize = MOST_SIDE * MOST_SIDE;
 
 // Splits a page into lines and tones. It is cut into areas of at most 64 by 64 pixels, each of which is laid on a tile and split for the
 // least energy; penalties between pixels of two areas are left out.
+#[tactic(auto, using(crate::proofs::Energies::energy_adds_up))]
 pub fn split_page(heap: Global, page: &Page) -> Result<Split, AllocError>
     ensures split { IfOk result (λ split. SplitOf (image_of page.now) (vec_items split.black) split.tiles split.energy) }
+    ensures energy { EnergyAddsUp (image_of page.now) }
     ensures only { IfOk result (λ split. OnlySplit (image_of page.now) (vec_items split.black) split.tiles split.energy) }
 {
     let (width, height) = (page.width(), page.height());

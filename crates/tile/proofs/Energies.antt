@@ -8,7 +8,7 @@ use Rattle.tile.specs.Laws.{pair_out, pair_back, out_there, back_there}
 use Rattle.tile.specs.Tiles.{penalty, tile_network, differ, energy}
 
 -- a sum over twice as many numbers takes them two by two
-sum_pairs : (m : ℕ) (f : ℕ → ℕ) → sum_below (2 * m) f ≡ sum_below m (λ p. f (2 * p) + f (2 * p + 1))
+pub sum_pairs : (m : ℕ) (f : ℕ → ℕ) → sum_below (2 * m) f ≡ sum_below m (λ p. f (2 * p) + f (2 * p + 1))
 unfolding sum_below
 sum_pairs zero f = refl
 sum_pairs (suc m) f =
