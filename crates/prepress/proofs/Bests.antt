@@ -16,7 +16,7 @@ use Rattle.tile.specs.Calls.{State, LaidOn, lay_refused, Laid}
 use Rattle.tile.specs.Tiles.{penalty, line, tile_network, energy, differ}
 use Rattle.netpbm.specs.Images.{Image}
 use Rattle.prepress.specs.declared.area.Area.{Area}
-use Rattle.prepress.specs.Areas.{OnPage, pixels}
+use Rattle.prepress.specs.Areas.{OnPage, pixel_count}
 use Rattle.prepress.specs.Greys.{area_costs}
 use Rattle.prepress.specs.Splits.{area_energy, LeastEnergy, is_line, lines}
 use Rattle.prepress.specs.Cuts.{Bytes, AreaCut}
@@ -69,7 +69,7 @@ area_cut i a c marks l costs bytes (X, cheapest, is) all =
     }
 
 -- a lay of an area over a table that is long enough is accepted, and its tile is the network of what was laid
-pub area_laid : (i : Image) (a : Area) (w h : ℕ) (s t : State) (bs : List ℕ) (r : Result (Unit {0}) LayRefusal) → OnPage w h a → pixels a ≤ length s.table.now → bs ≡ area_costs i a → Laid s a.width a.height bs r t → IsOk r × LaidOn s a.width a.height (area_costs i a) t
+pub area_laid : (i : Image) (a : Area) (w h : ℕ) (s t : State) (bs : List ℕ) (r : Result (Unit {0}) LayRefusal) → OnPage w h a → pixel_count a ≤ length s.table.now → bs ≡ area_costs i a → Laid s a.width a.height bs r t → IsOk r × LaidOn s a.width a.height (area_costs i a) t
 area_laid i a w h s t bs (Ok _) on room is (_, laid) = (refl, subst (λ xs. LaidOn s a.width a.height xs t) is laid)
 area_laid i a w h s t bs (Err e) on room is (refusal, _) =
     let none : lay_refused s a.width a.height bs ≡ None = rw is (lay_accepted i a w h (length s.table.now) on room) in

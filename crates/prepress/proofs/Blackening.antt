@@ -4,7 +4,7 @@ use Rattle.std.proofs.lemmas.Bool.{cases_eq}
 use Rattle.std.proofs.lemmas.List.{get_or-set_same, get_or-set_other}
 use Rattle.network.specs.declared.mark.Mark.{Mark}
 use Rattle.prepress.specs.declared.area.Area.{Area}
-use Rattle.prepress.specs.Areas.{OnPage, pixels, place}
+use Rattle.prepress.specs.Areas.{OnPage, pixel_count, place}
 use Rattle.prepress.specs.Splits.{lines}
 use Rattle.prepress.specs.Cuts.{Blackened}
 use Rattle.prepress.proofs.Areas.{place_inside, place_once}
@@ -13,7 +13,7 @@ pub blackened_none : (w : ℕ) (a : Area) (marks : List Mark) (black : List Bool
 blackened_none w a marks black = record { whole = refl; written = λ v there. absurd (omega arith); others = λ p apart. refl }
 
 -- one pixel more
-pub blackened_more : (w h : ℕ) (a : Area) (k : ℕ) (marks : List Mark) (before after : List Bool) (x : Bool) → OnPage w h a → k < pixels a → length before ≡ w * h → x ≡ lines marks k → Blackened w a k marks before after → Blackened w a (k + 1) marks before (set after (place w a k) x)
+pub blackened_more : (w h : ℕ) (a : Area) (k : ℕ) (marks : List Mark) (before after : List Bool) (x : Bool) → OnPage w h a → k < pixel_count a → length before ≡ w * h → x ≡ lines marks k → Blackened w a k marks before after → Blackened w a (k + 1) marks before (set after (place w a k) x)
 blackened_more w h a k marks before after x on there whole is so_far =
     let p = place w a k in
     let inside : p < length after = omega (arith, place_inside w h k a on there, whole, so_far.whole) in

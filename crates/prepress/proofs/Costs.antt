@@ -11,7 +11,7 @@ use Rattle.tile.specs.Refusals.{off_tile, lay_refusal}
 use Rattle.tile.proofs.Neighbours.{joins_neighbours}
 use Rattle.netpbm.specs.Images.{Image}
 use Rattle.prepress.specs.declared.area.Area.{Area}
-use Rattle.prepress.specs.Areas.{OnPage, pixels, has_right, has_below}
+use Rattle.prepress.specs.Areas.{OnPage, pixel_count, has_right, has_below}
 use Rattle.prepress.specs.Cuts.{Bytes}
 use Rattle.prepress.specs.Greys.{pixel_costs, area_costs}
 use Rattle.prepress.proofs.Areas.{split_rows}
@@ -38,12 +38,12 @@ none_passes : (p : ℕ → Bool) (a n : ℕ) → ((k : ℕ) → k < a + n → p 
 none_passes p a zero none = refl
 none_passes p a (suc n) none = rw (none a (omega arith)) (none_passes p (a + 1) n (λ k there. none k (omega arith)))
 
-pub costs_long : (i : Image) (a : Area) → length (area_costs i a) ≡ 4 * pixels a
-costs_long i a = fours_long (pixel_costs i a) 0 (pixels a) (λ v. refl)
+pub costs_long : (i : Image) (a : Area) → length (area_costs i a) ≡ 4 * pixel_count a
+costs_long i a = fours_long (pixel_costs i a) 0 (pixel_count a) (λ v. refl)
 
 -- the bytes of pixel v
-pub cost_at : (i : Image) (a : Area) (v k : ℕ) → v < pixels a → k < 4 → get_or (area_costs i a) (4 * v + k) 0 ≡ get_or (pixel_costs i a v) k 0
-cost_at i a v k there inside = let same : 0 + v ≡ v = omega arith in fours_at (pixel_costs i a) 0 (pixels a) v k (λ u. refl) there inside ∙ ap (λ u. get_or (pixel_costs i a u) k 0) same
+pub cost_at : (i : Image) (a : Area) (v k : ℕ) → v < pixel_count a → k < 4 → get_or (area_costs i a) (4 * v + k) 0 ≡ get_or (pixel_costs i a v) k 0
+cost_at i a v k there inside = let same : 0 + v ≡ v = omega arith in fours_at (pixel_costs i a) 0 (pixel_count a) v k (λ u. refl) there inside ∙ ap (λ u. get_or (pixel_costs i a u) k 0) same
 
 -- nothing passes the test of a penalty off the tile: there is one only where the neighbour is on the area
 no_penalty : (b : Bool) (x : ℕ) → (not b && nat_lt 0 (cond b x 0)) ≡ false
@@ -51,33 +51,33 @@ no_penalty true x = refl
 no_penalty false x = refl
 
 -- the neighbours of a pixel are joined to it where they are on the area
-pub right_joined : (a : Area) (v : ℕ) → v < pixels a → joined a.width (pixels a) (2 * v) ≡ has_right a v
+pub right_joined : (a : Area) (v : ℕ) → v < pixel_count a → joined a.width (pixel_count a) (2 * v) ≡ has_right a v
 right_joined a v there =
     let (_, row, column, whole) = split_rows a.height a.width v (omega arith) in
-    subst (λ k. joined a.width (pixels a) (2 * k) ≡ has_right a v) whole (joins_neighbours a.width a.height (v % a.width) (v / a.width) column row).0
+    subst (λ k. joined a.width (pixel_count a) (2 * k) ≡ has_right a v) whole (joins_neighbours a.width a.height (v % a.width) (v / a.width) column row).0
 
-pub below_joined : (a : Area) (v : ℕ) → v < pixels a → joined a.width (pixels a) (2 * v + 1) ≡ has_below a v
+pub below_joined : (a : Area) (v : ℕ) → v < pixel_count a → joined a.width (pixel_count a) (2 * v + 1) ≡ has_below a v
 below_joined a v there =
     let (_, row, column, whole) = split_rows a.height a.width v (omega arith) in
-    subst (λ k. joined a.width (pixels a) (2 * k + 1) ≡ has_below a v) whole (joins_neighbours a.width a.height (v % a.width) (v / a.width) column row).1
+    subst (λ k. joined a.width (pixel_count a) (2 * k + 1) ≡ has_below a v) whole (joins_neighbours a.width a.height (v % a.width) (v / a.width) column row).1
 
-pair_inside : (i : Image) (a : Area) (p : ℕ) → p < 2 * pixels a → (not (joined a.width (pixels a) p) && nat_lt 0 (penalty_laid (area_costs i a) p)) ≡ false
-pair_inside i a = each_pair (λ p. p < 2 * pixels a → (not (joined a.width (pixels a) p) && nat_lt 0 (penalty_laid (area_costs i a) p)) ≡ false)
+pair_inside : (i : Image) (a : Area) (p : ℕ) → p < 2 * pixel_count a → (not (joined a.width (pixel_count a) p) && nat_lt 0 (penalty_laid (area_costs i a) p)) ≡ false
+pair_inside i a = each_pair (λ p. p < 2 * pixel_count a → (not (joined a.width (pixel_count a) p) && nat_lt 0 (penalty_laid (area_costs i a) p)) ≡ false)
     (λ v there.
-    let inside : v < pixels a = omega arith in
+    let inside : v < pixel_count a = omega arith in
     rw (right_joined a v inside, right_side v, pair_out v, cost_at i a v 2 inside (omega arith)) (no_penalty (has_right a v) _))
     (λ v there.
-    let inside : v < pixels a = omega arith in
+    let inside : v < pixel_count a = omega arith in
     rw (below_joined a v inside, below_side v, pair_back v, cost_at i a v 3 inside (omega arith)) (no_penalty (has_below a v) _))
 
-costs_inside : (i : Image) (a : Area) → off_tile a.width (pixels a) (area_costs i a) ≡ false
-costs_inside i a = none_passes _ 0 (2 * pixels a) (λ p there. pair_inside i a p (omega arith))
+costs_inside : (i : Image) (a : Area) → off_tile a.width (pixel_count a) (area_costs i a) ≡ false
+costs_inside i a = none_passes _ 0 (2 * pixel_count a) (λ p there. pair_inside i a p (omega arith))
 
 -- so a lay over a table that is long enough is accepted
-pub lay_accepted : (i : Image) (a : Area) (w h records : ℕ) → OnPage w h a → pixels a ≤ records → lay_refusal a.width a.height (area_costs i a) records ≡ None
+pub lay_accepted : (i : Image) (a : Area) (w h records : ℕ) → OnPage w h a → pixel_count a ≤ records → lay_refusal a.width a.height (area_costs i a) records ≡ None
 lay_accepted i a w h records on room =
     let long = costs_long i a in
-    rw (costs_inside i a, le-leb 1 a.width on.some_columns, le-leb a.width 64 on.narrow, le-leb 1 a.height on.some_rows, le-leb a.height 64 on.low, eq-eqb (length (area_costs i a)) (4 * (a.width * a.height)) long, le-ltb records (pixels a) room) refl
+    rw (costs_inside i a, le-leb 1 a.width on.some_columns, le-leb a.width 64 on.narrow, le-leb 1 a.height on.some_rows, le-leb a.height 64 on.low, eq-eqb (length (area_costs i a)) (4 * (a.width * a.height)) long, le-ltb records (pixel_count a) room) refl
 
 -- the costs are bytes
 pub four_bytes : (a b c d : ℕ) → a < 256 → b < 256 → c < 256 → d < 256 → Bytes (a ∷ b ∷ c ∷ d ∷ [])

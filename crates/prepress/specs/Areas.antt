@@ -1,23 +1,23 @@
--- How a page is cut into areas of at most 64 by 64 pixels, row by row from the top.
+-- How a page is divided into areas of at most 64 by 64 pixels, row by row from the top.
 use Rattle.std.specs.Prelude.{◌≡◌, ℕ, ◌+◌, ◌-◌, ◌*◌, ◌/◌, ◌%◌, ◌<◌, ◌≤◌, min, Bool, nat_lt}
 use Rattle.std.specs.Int.{div_ceil}
 use Rattle.prepress.specs.declared.area.Area.{Area}
 
--- how many parts of 64 pixels, the last of them maybe shorter, a side of so many pixels is cut into
-abbrev pub parts : ℕ → ℕ
-parts side = div_ceil side 64
+-- how many parts of 64 pixels, the last of them maybe shorter, a side of so many pixels is divided into
+abbrev pub part_count : ℕ → ℕ
+part_count side = div_ceil side 64
 
 -- how many pixels part k of it has
 abbrev pub part_length : ℕ → ℕ → ℕ
 part_length side k = min 64 (side - k * 64)
 
 -- how many areas a page w wide and h high has
-abbrev pub areas : ℕ → ℕ → ℕ
-areas w h = parts w * parts h
+abbrev pub area_count : ℕ → ℕ → ℕ
+area_count w h = part_count w * part_count h
 
 -- area t of it
 abbrev pub area_of : ℕ → ℕ → ℕ → Area
-area_of w h t = let row = t / parts w in let column = t % parts w in record {
+area_of w h t = let row = t / part_count w in let column = t % part_count w in record {
   top = row * 64;
   left = column * 64;
   width = part_length w column;
@@ -25,8 +25,8 @@ area_of w h t = let row = t / parts w in let column = t % parts w in record {
 }
 
 -- how many pixels an area has
-abbrev pub pixels : Area → ℕ
-pixels a = a.width * a.height
+abbrev pub pixel_count : Area → ℕ
+pixel_count a = a.width * a.height
 
 -- the number that pixel v of an area has on a page w wide
 abbrev pub place : ℕ → Area → ℕ → ℕ
@@ -50,8 +50,8 @@ pub record OnPage (w h : ℕ) (a : Area) : Type 0 where
 
 -- pixel v of area t is pixel p of a page w wide and h high
 pub record StandsAt (w h p t v : ℕ) : Type 0 where
-  pub area : t < areas w h
-  pub pixel : v < pixels (area_of w h t)
+  pub area : t < area_count w h
+  pub pixel : v < pixel_count (area_of w h t)
   pub place : place w (area_of w h t) v ≡ p
 
 -- each pixel of a page is a pixel of an area, and of one only

@@ -4,7 +4,7 @@ use Rattle.std.specs.List.{flat_map, range_with_len}
 use Rattle.std.specs.Int.{abs_diff}
 use Rattle.netpbm.specs.Images.{Image}
 use Rattle.prepress.specs.declared.area.Area.{Area}
-use Rattle.prepress.specs.Areas.{pixels, place, has_right, has_below}
+use Rattle.prepress.specs.Areas.{pixel_count, place, has_right, has_below}
 
 -- what a pixel of this grey costs as line
 abbrev pub line_cost : ℕ → ℕ
@@ -38,4 +38,4 @@ pixel_costs i a v =
 
 -- those of all its pixels
 abbrev pub area_costs : Image → Area → List ℕ
-area_costs i a = flat_map (pixel_costs i a) (range_with_len 0 (pixels a))
+area_costs i a = flat_map (pixel_costs i a) (range_with_len 0 (pixel_count a))

@@ -1,6 +1,6 @@
-// The areas that a page is cut into: of at most 64 by 64 pixels, row by row from the top.
+// The areas that a page is divided into: of at most 64 by 64 pixels, row by row from the top.
 ghost use Rattle.std.specs.Prelude.{◌≡◌, ◌+◌, ◌*◌, ◌/◌, ◌<◌, ◌≤◌};
-ghost use Rattle.prepress.specs.Areas.{parts, part_length, area_of, areas, place};
+ghost use Rattle.prepress.specs.Areas.{part_count, part_length, area_of, area_count, place};
 
 use tile::MOST_SIDE;
 
@@ -13,9 +13,9 @@ pub(crate) struct Area {
     pub(crate) height: usize,
 }
 
-// How many parts a side of so many pixels is cut into.
-fn parts(side: usize) -> usize
-    ensures { result ≡ parts side }
+// How many parts a side of so many pixels is divided into.
+fn part_count(side: usize) -> usize
+    ensures { result ≡ part_count side }
 {
     side.div_ceil(MOST_SIDE)
 }
@@ -23,19 +23,19 @@ fn parts(side: usize) -> usize
 // How many pixels a part of a side has.
 fn part_length(side: usize, part: usize) -> usize
     requires few { side ≤ 16384 }
-    requires there { part < parts side }
+    requires there { part < part_count side }
     ensures { result ≡ part_length side part }
 {
     MOST_SIDE.min(side - part * MOST_SIDE)
 }
 
-// How many areas a page of these sides is cut into.
-pub(crate) fn areas(width: usize, height: usize) -> usize
+// How many areas a page of these sides is divided into.
+pub(crate) fn area_count(width: usize, height: usize) -> usize
     requires few_columns { width ≤ 16384 }
     requires few_rows { height ≤ 16384 }
-    ensures { result ≡ areas width height }
+    ensures { result ≡ area_count width height }
 {
-    parts(width) * parts(height)
+    part_count(width) * part_count(height)
 }
 
 impl Area {
@@ -43,10 +43,10 @@ impl Area {
     pub(crate) fn of(width: usize, height: usize, number: usize) -> Area
         requires few_columns { width ≤ 16384 }
         requires few_rows { height ≤ 16384 }
-        requires there { number < areas width height }
+        requires there { number < area_count width height }
         ensures { result ≡ area_of width height number }
     {
-        let across = parts(width);
+        let across = part_count(width);
         let (row, column) = (number / across, number % across);
         Area {
             top: row * MOST_SIDE,

@@ -1,7 +1,7 @@
 // The split of one area, by the cheapest selections of a tile that is laid from it.
 ghost use Rattle.std.specs.Prelude.{◌≡◌, ◌*◌, ◌≤◌, IfOk, length, vec_items};
 ghost use Rattle.netpbm.specs.Values.{image_of};
-ghost use Rattle.prepress.specs.Areas.{OnPage, pixels};
+ghost use Rattle.prepress.specs.Areas.{OnPage, pixel_count};
 ghost use Rattle.prepress.specs.Cuts.{AreaCut};
 
 use super::area::Area;
@@ -22,7 +22,7 @@ pub(crate) fn cut_area(
     area: Area,
 ) -> Result<Cut, AllocError>
     requires area { OnPage (image_of page.now).width (image_of page.now).height area }
-    requires room { pixels area ≤ length table.old }
+    requires room { pixel_count area ≤ length table.old }
     ensures cut { IfOk result (λ cut. AreaCut (image_of page.now) area cut.cost (vec_items cut.marks)) }
     ensures same_length { length table.new ≡ length table.old }
 {

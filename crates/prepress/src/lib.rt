@@ -1,4 +1,4 @@
-// Prepress: a page is cut into areas, each laid on a tile, and split into lines and tones of the least energy.
+// Prepress: a page is divided into areas, each laid on a tile, and split into lines and tones of the least energy.
 #![tactic(auto)]
 
 mod area;

@@ -1,7 +1,7 @@
 // What is laid of an area: four bytes a pixel.
 ghost use Rattle.std.specs.Prelude.{◌≡◌, ◌+◌, ◌<◌, IfOk, true, length, cond, slice_index, vec_items};
 ghost use Rattle.netpbm.specs.Values.{image_of};
-ghost use Rattle.prepress.specs.Areas.{OnPage, pixels};
+ghost use Rattle.prepress.specs.Areas.{OnPage, pixel_count};
 ghost use Rattle.prepress.specs.Cuts.{Bytes};
 ghost use Rattle.prepress.specs.Greys.{penalty, pixel_costs, area_costs};
 
@@ -11,12 +11,12 @@ use netpbm::Page;
 use std::alloc::{AllocError, Global};
 
 // The penalty between two pixels of a page; none where they are not neighbours.
-fn penalty_between(greys: &[u8], are: bool, place: usize, other: usize) -> u8
+fn penalty_between(greys: &[u8], neighbours: bool, place: usize, other: usize) -> u8
     requires there { place < length greys.now }
-    requires other_there { are ≡ true → other < length greys.now }
-    ensures { result ≡ cond are (penalty (slice_index greys.now place) (slice_index greys.now other)) 0 }
+    requires other_there { neighbours ≡ true → other < length greys.now }
+    ensures { result ≡ cond neighbours (penalty (slice_index greys.now place) (slice_index greys.now other)) 0 }
 {
-    if are {
+    if neighbours {
         penalty(greys[place], greys[other])
     } else {
         0
@@ -26,7 +26,7 @@ fn penalty_between(greys: &[u8], are: bool, place: usize, other: usize) -> u8
 // The costs of a pixel of an area.
 fn pixel_costs(page: &Page, area: Area, pixel: usize) -> [u8; 4]
     requires area { OnPage (image_of page.now).width (image_of page.now).height area }
-    requires pixel { pixel < pixels area }
+    requires pixel { pixel < pixel_count area }
     ensures costs { result ≡ pixel_costs (image_of page.now) area pixel }
     ensures bytes { Bytes result }
 {
@@ -34,13 +34,13 @@ fn pixel_costs(page: &Page, area: Area, pixel: usize) -> [u8; 4]
     let width = page.width();
     let place = area.place(width, pixel);
     let grey = greys[place];
-    let goes_on = pixel % area.width + 1 < area.width;
-    let has_next = pixel / area.width + 1 < area.height;
+    let has_right = pixel % area.width + 1 < area.width;
+    let has_below = pixel / area.width + 1 < area.height;
     [
         line_cost(grey),
         tone_cost(grey),
-        penalty_between(greys, goes_on, place, place + 1),
-        penalty_between(greys, has_next, place, place + width),
+        penalty_between(greys, has_right, place, place + 1),
+        penalty_between(greys, has_below, place, place + width),
     ]
 }
 

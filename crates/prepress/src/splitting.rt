@@ -1,16 +1,19 @@
 // The split of a page into lines and tones: each area is cut by itself.
 ghost use Rattle.std.specs.Prelude.{◌≡◌, ◌≤◌, ◌*◌, IfOk, length, vec_items};
 ghost use Rattle.netpbm.specs.Values.{image_of};
-ghost use Rattle.prepress.specs.Areas.{OnPage, pixels};
+ghost use Rattle.prepress.specs.Areas.{OnPage, pixel_count};
 ghost use Rattle.prepress.specs.Cuts.{Blackened};
 ghost use Rattle.prepress.specs.Splits.{is_line, SplitOf, OnlySplit, EnergyAddsUp};
 
-use super::area::{Area, areas};
+use super::area::{Area, area_count};
 use super::cutting::cut_area;
 use netpbm::Page;
 use network::Mark;
 use std::alloc::{AllocError, Global};
 use tile::{MOST_SIDE, Pixel};
+
+// How many records a tile's table has: one for each pixel of the largest tile.
+const RECORDS: usize = MOST_SIDE * MOST_SIDE;
 
 // How a page is split: which of its pixels are lines, which are black, on how many tiles, and for which energy.
 #[derive(PartialEq, Eq, Debug, Drop)]
@@ -34,20 +37,17 @@ fn blacken(black: &mut [bool], width: usize, height: usize, area: Area, marks: &
     requires area { OnPage width height area }
     requires few_columns { width ≤ 16384 }
     requires few_rows { height ≤ 16384 }
-    requires pixels { length marks.now ≡ pixels area }
+    requires pixels { length marks.now ≡ pixel_count area }
     requires whole { length black.old ≡ width * height }
-    ensures { Blackened width area (pixels area) marks.now black.old black.new }
+    ensures { Blackened width area (pixel_count area) marks.now black.old black.new }
 {
     for (pixel, mark) in marks.iter().enumerate() {
         black[area.place(width, pixel)] = is_line(*mark);
     }
 }
 
-// How many records a tile's table has: one for each pixel of the largest tile.
-const RECORDS: usize = MOST_SIDE * MOST_SIDE;
-
-// Splits a page into lines and tones. It is cut into areas of at most 64 by 64 pixels, each of which is laid on a tile and split for the
-// least energy; penalties between pixels of two areas are left out.
+// Splits a page into lines and tones. It is divided into areas of at most 64 by 64 pixels, each of which is laid on a tile and split for
+// the least energy; penalties between pixels of two areas are left out.
 #[tactic(auto, using(crate::proofs::Energies::energy_adds_up))]
 pub fn split_page(heap: Global, page: &Page) -> Result<Split, AllocError>
     ensures split { IfOk result (λ split. SplitOf (image_of page.now) (vec_items split.black) split.tiles split.energy) }
@@ -57,7 +57,7 @@ pub fn split_page(heap: Global, page: &Page) -> Result<Split, AllocError>
     let (width, height) = (page.width(), page.height());
     let mut table = vec![in heap; Pixel::default(); RECORDS]?;
     let mut black = vec![in heap; false; width * height]?;
-    let tiles = areas(width, height);
+    let tiles = area_count(width, height);
     let mut energy = 0;
     for number in 0..tiles {
         let area = Area::of(width, height, number);

@@ -11,24 +11,24 @@ loop-number-init c = (split_none (image_of c.args.page.now) (vec_items c.in_ok-b
 
 pub cut_area-requires-clause-area : goal.cut_area-requires-clause-area
 cut_area-requires-clause-area c =
-    let told = area_told (image_of c.args.page.now) _ _ c.loop-number.number _ c.of-area.result c.width-width.ensures.width c.height-height.ensures.height c.areas-tiles.ensures c.loop-number-test.true c.of-area.ensures in
+    let told = area_told (image_of c.args.page.now) _ _ c.loop-number.number _ c.of-area.result c.width-width.ensures.width c.height-height.ensures.height c.area_count-tiles.ensures c.loop-number-test.true c.of-area.ensures in
     told.on
 
 pub cut_area-requires-clause-room : goal.cut_area-requires-clause-room
 cut_area-requires-clause-room c =
-    let told = area_told (image_of c.args.page.now) _ _ c.loop-number.number _ c.of-area.result c.width-width.ensures.width c.height-height.ensures.height c.areas-tiles.ensures c.loop-number-test.true c.of-area.ensures in
+    let told = area_told (image_of c.args.page.now) _ _ c.loop-number.number _ c.of-area.result c.width-width.ensures.width c.height-height.ensures.height c.area_count-tiles.ensures c.loop-number-test.true c.of-area.ensures in
     omega (arith, told.few, c.deref_mut.ensures.len, c.loop-number.invariant.1)
 
 pub blacken-requires-clause-area : goal.blacken-requires-clause-area
 blacken-requires-clause-area c =
-    let told = area_told (image_of c.args.page.now) _ _ c.loop-number.number _ c.of-area.result c.width-width.ensures.width c.height-height.ensures.height c.areas-tiles.ensures c.loop-number-test.true c.of-area.ensures in
+    let told = area_told (image_of c.args.page.now) _ _ c.loop-number.number _ c.of-area.result c.width-width.ensures.width c.height-height.ensures.height c.area_count-tiles.ensures c.loop-number-test.true c.of-area.ensures in
     rw (c.width-width.ensures.width, c.height-height.ensures.height) told.on
 
 pub loop-number-preserved : goal.loop-number-preserved
 loop-number-preserved c =
     let i : Image = image_of c.args.page.now in
     let n = c.loop-number.number in
-    let told = area_told i _ _ n _ c.of-area.result c.width-width.ensures.width c.height-height.ensures.height c.areas-tiles.ensures c.loop-number-test.true c.of-area.ensures in
+    let told = area_told i _ _ n _ c.of-area.result c.width-width.ensures.width c.height-height.ensures.height c.area_count-tiles.ensures c.loop-number-test.true c.of-area.ensures in
     let page_long : length c.blacken.new.black ≡ c.loop-number.black.len = search rules in
     let table_long : length c.cut_area.new.table ≡ c.loop-number.table.len = search rules in
     let kept = drop (length c.blacken.new.black) c.loop-number.black.items in
@@ -38,9 +38,9 @@ loop-number-preserved c =
 pub returns-clause-split : goal.returns-clause-split
 returns-clause-split c =
     let i : Image = image_of c.args.page.now in
-    all_split i c.loop-number.number c.areas-tiles.result (vec_items c.loop-number.black) c.loop-number.energy (search rules) (search rules) c.loop-number.invariant.0
+    all_split i c.loop-number.number c.area_count-tiles.result (vec_items c.loop-number.black) c.loop-number.energy (search rules) (search rules) c.loop-number.invariant.0
 
 pub returns-clause-only : goal.returns-clause-only
 returns-clause-only c =
     let i : Image = image_of c.args.page.now in
-    only_split i (vec_items c.loop-number.black) c.areas-tiles.result c.loop-number.energy (all_split i c.loop-number.number c.areas-tiles.result (vec_items c.loop-number.black) c.loop-number.energy (search rules) (search rules) c.loop-number.invariant.0)
+    only_split i (vec_items c.loop-number.black) c.area_count-tiles.result c.loop-number.energy (all_split i c.loop-number.number c.area_count-tiles.result (vec_items c.loop-number.black) c.loop-number.energy (search rules) (search rules) c.loop-number.invariant.0)
