@@ -6,6 +6,7 @@ use Rattle.prepress.specs.declared.area.Area.{Area}
 use Rattle.prepress.specs.Areas.{pixel_count, place}
 use Rattle.prepress.specs.Splits.{area_energy, BestSplit, lines}
 
+-- no number is above 255
 abbrev pub Bytes : List ℕ → Type 0
 Bytes bs = (k : ℕ) → slice_index bs k ≤ 255
 
