@@ -9,7 +9,7 @@ use Rattle.network.specs.Nets.{with_terminal, shifted}
 use Rattle.tile.specs.declared.arc.Side.{Side}
 use Rattle.tile.specs.declared.arc.Side.TheVariants.{Right, Below}
 use Rattle.tile.specs.declared.arc.Way.{Way}
-use Rattle.tile.specs.declared.arc.Way.TheVariants.{Out, Back}
+use Rattle.tile.specs.declared.arc.Way.TheVariants.{Forward, Reverse}
 use Rattle.tile.specs.declared.pixel.Pair.{Pair}
 use Rattle.tile.specs.declared.pixel.Pixel.{Pixel}
 use Rattle.tile.specs.Grids.{owner, side_of, way_of, joined, grid}
@@ -71,14 +71,14 @@ small_at table n i room small there =
     let long = length-take-le n table room in
     subst Small (get_or-take n table i no_pixel there) (small i (omega arith))
 
-pub pair_small : (x : Pixel) (s : Side) → Small x → (pair_of x s).out + (pair_of x s).back ≤ 510
-pair_small x s small = elim s as (λ s. (pair_of x s).out + (pair_of x s).back ≤ 510) [ Right ↦ small.2 | Below ↦ small.3 ]
+pub pair_small : (x : Pixel) (s : Side) → Small x → (pair_of x s).forward + (pair_of x s).reverse ≤ 510
+pair_small x s small = elim s as (λ s. (pair_of x s).forward + (pair_of x s).reverse ≤ 510) [ Right ↦ small.2 | Below ↦ small.3 ]
 
 pub small_moved : (x : Pixel) (s : Side) (y : Way) (k : ℕ) → Small x → k ≤ residual_of (pair_of x s) y → Small (put_pair x s (moved (pair_of x s) y k))
-small_moved x Right Out k small most = (small.0, small.1, omega (arith, small.2), small.3)
-small_moved x Right Back k small most = (small.0, small.1, omega (arith, small.2), small.3)
-small_moved x Below Out k small most = (small.0, small.1, small.2, omega (arith, small.3))
-small_moved x Below Back k small most = (small.0, small.1, small.2, omega (arith, small.3))
+small_moved x Right Forward k small most = (small.0, small.1, omega (arith, small.2), small.3)
+small_moved x Right Reverse k small most = (small.0, small.1, omega (arith, small.2), small.3)
+small_moved x Below Forward k small most = (small.0, small.1, small.2, omega (arith, small.3))
+small_moved x Below Reverse k small most = (small.0, small.1, small.2, omega (arith, small.3))
 
 -- what a shift along an arc that is there answers
 pub table_answer : (w : ℕ) (table : List Pixel) (n a x : ℕ) → n ≤ length table → joined w n (a / 2) ≡ true → shift_answer (of_pixels w (take n table)) a x ≡ within x (residual_of (pair_of (pixel_at table (owner (a / 2))) (side_of (a / 2))) (way_of a))

@@ -11,7 +11,7 @@ use Rattle.network.specs.Cuts.{Selection, cost}
 use Rattle.tile.specs.declared.arc.Side.{Side}
 use Rattle.tile.specs.declared.arc.Side.TheVariants.{Right, Below}
 use Rattle.tile.specs.declared.arc.Way.{Way}
-use Rattle.tile.specs.declared.arc.Way.TheVariants.{Out, Back}
+use Rattle.tile.specs.declared.arc.Way.TheVariants.{Forward, Reverse}
 use Rattle.tile.specs.declared.pixel.Pixel.{Pixel}
 use Rattle.tile.specs.Accepted.{Lays}
 use Rattle.tile.specs.Grids.{owner, side_of, way_of, grid}
@@ -40,10 +40,10 @@ terminal_laid bs v Source = refl
 terminal_laid bs v Sink = refl
 
 residual_laid : (bs : List ℕ) (v : ℕ) (s : Side) (y : Way) → residual_of (pair_of (laid_at bs v) s) y ≡ penalty_to s bs v
-residual_laid bs v Right Out = refl
-residual_laid bs v Right Back = refl
-residual_laid bs v Below Out = refl
-residual_laid bs v Below Back = refl
+residual_laid bs v Right Forward = refl
+residual_laid bs v Right Reverse = refl
+residual_laid bs v Below Forward = refl
+residual_laid bs v Below Reverse = refl
 
 pub network_laid : (w h : ℕ) (bs : List ℕ) → length bs ≡ 4 * (w * h) → of_pixels w (laid_pixels bs (w * h)) ≡ tile_network w h bs
 network_laid w h bs long = λ i. record {

@@ -5,7 +5,7 @@ use Rattle.network.specs.Nets.{Ends, Graph}
 use Rattle.tile.specs.declared.arc.Side.{Side}
 use Rattle.tile.specs.declared.arc.Side.TheVariants.{Right, Below}
 use Rattle.tile.specs.declared.arc.Way.{Way}
-use Rattle.tile.specs.declared.arc.Way.TheVariants.{Out, Back}
+use Rattle.tile.specs.declared.arc.Way.TheVariants.{Forward, Reverse}
 
 -- the pixel of a pair, and its side of that
 abbrev pub owner : ℕ → ℕ
@@ -16,7 +16,7 @@ side_of p = cond (p % 2 == 0) Right Below
 
 -- which of its pair an arc is
 abbrev pub way_of : ℕ → Way
-way_of a = cond (a % 2 == 0) Out Back
+way_of a = cond (a % 2 == 0) Forward Reverse
 
 -- how far on the neighbour lies, in rows of w pixels
 abbrev pub step : ℕ → Side → ℕ
@@ -41,8 +41,8 @@ joined w n p = nat_lt (neighbour w p) n && on_tile w (side_of p) (neighbour w p)
 
 -- the ends of the arcs of a pair
 abbrev pub joins : ℕ → ℕ → Way → Ends
-joins w p Out = record { tail = owner p; head = neighbour w p; reverse = 2 * p + 1 }
-joins w p Back = record { tail = neighbour w p; head = owner p; reverse = 2 * p }
+joins w p Forward = record { tail = owner p; head = neighbour w p; reverse = 2 * p + 1 }
+joins w p Reverse = record { tail = neighbour w p; head = owner p; reverse = 2 * p }
 
 -- x, where b holds
 abbrev pub only : Bool → ℕ → List ℕ

@@ -10,7 +10,7 @@ use Rattle.network.specs.Nets.{Ends, LawfulGraph, Lawful, reversed}
 use Rattle.tile.specs.declared.pixel.Pixel.{Pixel}
 use Rattle.tile.specs.declared.arc.Side.{Side}
 use Rattle.tile.specs.declared.arc.Side.TheVariants.{Right, Below}
-use Rattle.tile.specs.declared.arc.Way.TheVariants.{Out, Back}
+use Rattle.tile.specs.declared.arc.Way.TheVariants.{Forward, Reverse}
 use Rattle.tile.specs.Pixels.{pair_of}
 use Rattle.tile.specs.Grids.{owner, side_of, way_of, neighbour, goes_on, on_tile, joined, joins, only, arcs_of, grid}
 use Rattle.tile.specs.Tables.{AllSmall, pixel_at, of_pixels}
@@ -22,26 +22,26 @@ pair_out p = omega arith
 pub pair_back : (p : ℕ) → (2 * p + 1) / 2 ≡ p
 pair_back p = omega arith
 
-out_way : (p : ℕ) → way_of (2 * p) ≡ Out
-out_way p = rw (eq-eqb ((2 * p) % 2) 0 (omega arith))
+forward_way : (p : ℕ) → way_of (2 * p) ≡ Forward
+forward_way p = rw (eq-eqb ((2 * p) % 2) 0 (omega arith))
 
-back_way : (p : ℕ) → way_of (2 * p + 1) ≡ Back
-back_way p = rw (ne_eqb ((2 * p + 1) % 2) 0 (omega arith))
+reverse_way : (p : ℕ) → way_of (2 * p + 1) ≡ Reverse
+reverse_way p = rw (ne_eqb ((2 * p + 1) % 2) 0 (omega arith))
 
-pub out_there : (w n p : ℕ) → joined w n p ≡ true → (grid w n).ends (2 * p) ≡ Some (joins w p Out)
-out_there w n p h = rw (pair_out p, out_way p, h)
+pub forward_there : (w n p : ℕ) → joined w n p ≡ true → (grid w n).ends (2 * p) ≡ Some (joins w p Forward)
+forward_there w n p h = rw (pair_out p, forward_way p, h)
 
-pub back_there : (w n p : ℕ) → joined w n p ≡ true → (grid w n).ends (2 * p + 1) ≡ Some (joins w p Back)
-back_there w n p h = rw (pair_back p, back_way p, h)
+pub reverse_there : (w n p : ℕ) → joined w n p ≡ true → (grid w n).ends (2 * p + 1) ≡ Some (joins w p Reverse)
+reverse_there w n p h = rw (pair_back p, reverse_way p, h)
 
 -- what holds of both arcs of each pair on the tile holds of each arc
-each_arc : (w n : ℕ) (P : ℕ → Ends → Type 0) → ((p : ℕ) → joined w n p ≡ true → P (2 * p) (joins w p Out)) → ((p : ℕ) → joined w n p ≡ true → P (2 * p + 1) (joins w p Back)) → (a : ℕ) (e : Ends) → (grid w n).ends a ≡ Some e → P a e
-each_arc w n P out back a e is =
+each_arc : (w n : ℕ) (P : ℕ → Ends → Type 0) → ((p : ℕ) → joined w n p ≡ true → P (2 * p) (joins w p Forward)) → ((p : ℕ) → joined w n p ≡ true → P (2 * p + 1) (joins w p Reverse)) → (a : ℕ) (e : Ends) → (grid w n).ends a ≡ Some e → P a e
+each_arc w n P forward reverse a e is =
     let p = a / 2 in
     let t = cond_some (joined w n p) (joins w p (way_of a)) e is in
     ⊎_elim
-    (λ (two : 2 * p ≡ a). subst₂ P two (ap (joins w p) (sym (out_way p) ∙ ap way_of two) ∙ t.1) (out p t.0))
-    (λ (not : 2 * p ≡ a → ⊥). let two : 2 * p + 1 ≡ a = omega arith in subst₂ P two (ap (joins w p) (sym (back_way p) ∙ ap way_of two) ∙ t.1) (back p t.0))
+    (λ (two : 2 * p ≡ a). subst₂ P two (ap (joins w p) (sym (forward_way p) ∙ ap way_of two) ∙ t.1) (forward p t.0))
+    (λ (not : 2 * p ≡ a → ⊥). let two : 2 * p + 1 ≡ a = omega arith in subst₂ P two (ap (joins w p) (sym (reverse_way p) ∙ ap way_of two) ∙ t.1) (reverse p t.0))
     (cases_eq (2 * p) a)
 
 -- what stands at a place of a list that may have x in front
@@ -160,13 +160,13 @@ up_stands w n v above = below_stands w n v (4 * (v - w) + 3) (stands_later (belo
 moved_to : (w n v u x y : ℕ) → v ≡ u → x ≡ y → Stands (arcs_of w n v) x → Stands (arcs_of w n u) y
 moved_to w n v u x y is same there = subst₂ (λ v x. Stands (arcs_of w n v) x) is same there
 
-out_stands : (w n p : ℕ) → joined w n p ≡ true → Stands (arcs_of w n (owner p)) (2 * p)
-out_stands w n = each_pair (λ p. joined w n p ≡ true → Stands (arcs_of w n (owner p)) (2 * p))
+forward_stands : (w n p : ℕ) → joined w n p ≡ true → Stands (arcs_of w n (owner p)) (2 * p)
+forward_stands w n = each_pair (λ p. joined w n p ≡ true → Stands (arcs_of w n (owner p)) (2 * p))
     (λ v there. moved_to w n v (owner (2 * v)) (4 * v) (2 * (2 * v)) (omega arith) (omega arith) (right_stands w n v there))
     (λ v there. moved_to w n v (owner (2 * v + 1)) (4 * v + 2) (2 * (2 * v + 1)) (omega arith) (omega arith) (down_stands w n v there))
 
-back_stands : (w n p : ℕ) → joined w n p ≡ true → Stands (arcs_of w n (neighbour w p)) (2 * p + 1)
-back_stands w n = each_pair (λ p. joined w n p ≡ true → Stands (arcs_of w n (neighbour w p)) (2 * p + 1))
+reverse_stands : (w n p : ℕ) → joined w n p ≡ true → Stands (arcs_of w n (neighbour w p)) (2 * p + 1)
+reverse_stands w n = each_pair (λ p. joined w n p ≡ true → Stands (arcs_of w n (neighbour w p)) (2 * p + 1))
     (λ v there.
     let on = and_parts (nat_lt (v + 1) n) (goes_on w (v + 1)) (sym (right_joined w n v) ∙ there) in
     moved_to w n (v + 1) (neighbour w (2 * v)) (4 * (v + 1 - 1) + 1) (2 * (2 * v) + 1) (sym (right_neighbour w v)) (omega arith) (left_stands w n (v + 1) on.1))
@@ -184,35 +184,35 @@ graph_lawful w n few = record {
   small_code = each_arc w n (λ a e. a < 32768) (λ p there. omega (arith, both_there w n p there)) (λ p there. omega (arith, both_there w n p there));
   tail_there = each_arc w n (λ a e. e.tail < n) (λ p there. (both_there w n p there).0) (λ p there. (both_there w n p there).1);
   other = each_arc w n (λ a e. e.reverse ≢ a) (λ p there same. omega arith) (λ p there same. omega arith);
-  back = each_arc w n (λ a e. (grid w n).ends e.reverse ≡ Some (reversed a e)) (back_there w n) (out_there w n);
+  back = each_arc w n (λ a e. (grid w n).ends e.reverse ≡ Some (reversed a e)) (reverse_there w n) (forward_there w n);
   own = own;
-  placed = each_arc w n (λ a e. Stands (arcs_of w n e.tail) a) (out_stands w n) (back_stands w n);
+  placed = each_arc w n (λ a e. Stands (arcs_of w n e.tail) a) (forward_stands w n) (reverse_stands w n);
   once = λ v h j k a is_j is_k. omega (arith, at_places_of w n v j a is_j, at_places_of w n v k a is_k);
 }
   where
-    arc_out : (v p a : ℕ) → joined w n p ≡ true → owner p ≡ v → a ≡ 2 * p → (e : Ends) × ((grid w n).ends a ≡ Some e) × (e.tail ≡ v)
-    arc_out v p a there own is = (joins w p Out, rw is (out_there w n p there), own)
+    arc_forward : (v p a : ℕ) → joined w n p ≡ true → owner p ≡ v → a ≡ 2 * p → (e : Ends) × ((grid w n).ends a ≡ Some e) × (e.tail ≡ v)
+    arc_forward v p a there own is = (joins w p Forward, rw is (forward_there w n p there), own)
 
-    arc_back : (v p a : ℕ) → joined w n p ≡ true → neighbour w p ≡ v → a ≡ 2 * p + 1 → (e : Ends) × ((grid w n).ends a ≡ Some e) × (e.tail ≡ v)
-    arc_back v p a there own is = (joins w p Back, rw is (back_there w n p there), own)
+    arc_reverse : (v p a : ℕ) → joined w n p ≡ true → neighbour w p ≡ v → a ≡ 2 * p + 1 → (e : Ends) × ((grid w n).ends a ≡ Some e) × (e.tail ≡ v)
+    arc_reverse v p a there own is = (joins w p Reverse, rw is (reverse_there w n p there), own)
 
     own : (v k a : ℕ) → v < n → slice_get (arcs_of w n v) k ≡ Some a → (e : Ends) × ((grid w n).ends a ≡ Some e) × (e.tail ≡ v)
     own v k a there is =
         ⊎_elim
-        (λ h. arc_out v (2 * v) a h.0 (pair_out v) (omega (arith, h.1)))
+        (λ h. arc_forward v (2 * v) a h.0 (pair_out v) (omega (arith, h.1)))
         (⊎_elim
-        (λ h. let some : 0 < v = grind (arith, nat_tests, h.0) in arc_back v (2 * (v - 1)) a (left_joined w n v there h.0) (right_neighbour w (v - 1) ∙ omega arith) (omega (arith, h.1)))
+        (λ h. let some : 0 < v = grind (arith, nat_tests, h.0) in arc_reverse v (2 * (v - 1)) a (left_joined w n v there h.0) (right_neighbour w (v - 1) ∙ omega arith) (omega (arith, h.1)))
         (⊎_elim
-        (λ h. arc_out v (2 * v + 1) a h.0 (pair_back v) (omega (arith, h.1)))
-        (λ h. let above : w ≤ v = leb-true w v h.0 in arc_back v (2 * (v - w) + 1) a (up_joined w n v there above) (below_neighbour w (v - w) ∙ omega arith) (omega (arith, h.1)))))
+        (λ h. arc_forward v (2 * v + 1) a h.0 (pair_back v) (omega (arith, h.1)))
+        (λ h. let above : w ≤ v = leb-true w v h.0 in arc_reverse v (2 * (v - w) + 1) a (up_joined w n v there above) (below_neighbour w (v - w) ∙ omega arith) (omega (arith, h.1)))))
         (at_places_of w n v k a is)
 
 -- the residuals of a pair's two arcs
 pair_small : (pixels : List Pixel) (w p : ℕ) → AllSmall pixels → owner p < length pixels → (of_pixels w pixels).residual (2 * p) + (of_pixels w pixels).residual (2 * p + 1) ≤ 2 ^ 40
 pair_small pixels w p small there =
     let x = pixel_at pixels (owner p) in
-    let sum : (s : Side) → (pair_of x s).out + (pair_of x s).back ≤ 2 ^ 40 = λ s. elim s as (λ s. (pair_of x s).out + (pair_of x s).back ≤ 2 ^ 40) [ Right ↦ omega (arith, small (owner p) there) | Below ↦ omega (arith, small (owner p) there) ] in
-    rw (pair_out p, out_way p, pair_back p, back_way p) (sum (side_of p))
+    let sum : (s : Side) → (pair_of x s).forward + (pair_of x s).reverse ≤ 2 ^ 40 = λ s. elim s as (λ s. (pair_of x s).forward + (pair_of x s).reverse ≤ 2 ^ 40) [ Right ↦ omega (arith, small (owner p) there) | Below ↦ omega (arith, small (owner p) there) ] in
+    rw (pair_out p, forward_way p, pair_back p, reverse_way p) (sum (side_of p))
 
 pub lawful : (w : ℕ) (pixels : List Pixel) → length pixels ≤ 4096 → AllSmall pixels → Lawful (of_pixels w pixels)
 lawful w pixels few small =

@@ -5,16 +5,16 @@ use Rattle.network.specs.declared.terminal.Terminal.TheVariants.{Source, Sink}
 use Rattle.tile.specs.declared.arc.Side.{Side}
 use Rattle.tile.specs.declared.arc.Side.TheVariants.{Right, Below}
 use Rattle.tile.specs.declared.arc.Way.{Way}
-use Rattle.tile.specs.declared.arc.Way.TheVariants.{Out, Back}
+use Rattle.tile.specs.declared.arc.Way.TheVariants.{Forward, Reverse}
 use Rattle.tile.specs.declared.pixel.Pair.{Pair}
 use Rattle.tile.specs.declared.pixel.Pixel.{Pixel}
 
 -- costs are bytes, and a penalty stands for both arcs between two pixels
 abbrev pub Small : Pixel → Type 0
-Small x = (x.source ≤ 255) × (x.sink ≤ 255) × (x.right.out + x.right.back ≤ 510) × (x.below.out + x.below.back ≤ 510)
+Small x = (x.source ≤ 255) × (x.sink ≤ 255) × (x.right.forward + x.right.reverse ≤ 510) × (x.below.forward + x.below.reverse ≤ 510)
 
 abbrev pub both : ℕ → Pair
-both x = record { out = x; back = x }
+both x = record { forward = x; reverse = x }
 
 -- a pixel of these costs as line and as tone, and these penalties to the right and to below
 abbrev pub laid_pixel : ℕ → ℕ → ℕ → ℕ → Pixel
@@ -39,10 +39,10 @@ put_pair x Right p = record { source = x.source; sink = x.sink; right = p; below
 put_pair x Below p = record { source = x.source; sink = x.sink; right = x.right; below = p }
 
 abbrev pub residual_of : Pair → Way → ℕ
-residual_of p Out = p.out
-residual_of p Back = p.back
+residual_of p Forward = p.forward
+residual_of p Reverse = p.reverse
 
 -- p with x moved from one residual to the other
 abbrev pub moved : Pair → Way → ℕ → Pair
-moved p Out x = record { out = p.out - x; back = p.back + x }
-moved p Back x = record { out = p.out + x; back = p.back - x }
+moved p Forward x = record { forward = p.forward - x; reverse = p.reverse + x }
+moved p Reverse x = record { forward = p.forward + x; reverse = p.reverse - x }

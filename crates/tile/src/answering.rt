@@ -64,8 +64,8 @@ impl<'a> Network for Tile<'a> {
         let pair = self.pair(arc)?;
         let (pixel, neighbour) = (pair / 2, neighbour(self.width, pair));
         match Way::of(arc) {
-            Way::Out => Ok((pixel, neighbour, arc + 1)),
-            Way::Back => Ok((neighbour, pixel, arc - 1)),
+            Way::Forward => Ok((pixel, neighbour, arc + 1)),
+            Way::Reverse => Ok((neighbour, pixel, arc - 1)),
         }
     }
 

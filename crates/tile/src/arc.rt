@@ -12,8 +12,8 @@ pub(crate) enum Side {
 // Which arc of a pair: the one to the neighbour, or its reverse.
 #[derive(Clone, Copy, PartialEq, Eq, Debug)]
 pub(crate) enum Way {
-    Out,
-    Back,
+    Forward,
+    Reverse,
 }
 
 impl Side {
@@ -44,7 +44,11 @@ impl Way {
     pub(crate) fn of(arc: usize) -> Way
         ensures { result ≡ way_of arc }
     {
-        if arc % 2 == 0 { Way::Out } else { Way::Back }
+        if arc % 2 == 0 {
+            Way::Forward
+        } else {
+            Way::Reverse
+        }
     }
 }
 

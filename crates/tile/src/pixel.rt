@@ -8,8 +8,8 @@ use network::Terminal;
 // The residuals of an arc and its reverse.
 #[derive(Clone, Copy, PartialEq, Eq, Debug, Default)]
 pub struct Pair {
-    pub out: u16,
-    pub back: u16,
+    pub forward: u16,
+    pub reverse: u16,
 }
 
 // Amounts this narrow keep a table small: a cost is a byte, and two penalties of a byte add up to 510 at most.
@@ -26,12 +26,12 @@ pub struct Pixel {
 impl Pair {
     // Both residuals the same.
     fn both(residual: u8) -> Pair
-        ensures out { result.out ≡ residual }
-        ensures back { result.back ≡ residual }
+        ensures forward { result.forward ≡ residual }
+        ensures reverse { result.reverse ≡ residual }
     {
         Pair {
-            out: u16::from(residual),
-            back: u16::from(residual),
+            forward: u16::from(residual),
+            reverse: u16::from(residual),
         }
     }
 
@@ -39,26 +39,26 @@ impl Pair {
         ensures { result ≡ residual_of self way }
     {
         match way {
-            Way::Out => self.out,
-            Way::Back => self.back,
+            Way::Forward => self.forward,
+            Way::Reverse => self.reverse,
         }
     }
 
     // The pair with an amount moved from one residual to the other; none where the amount is above it.
     pub(crate) fn moved(self, way: Way, amount: u64) -> Option<Pair>
-        requires { self.out + self.back ≤ 510 }
+        requires { self.forward + self.reverse ≤ 510 }
         ensures { result ≡ cond (nat_le amount (residual_of self way)) (Some (moved self way amount)) None }
     {
         let amount = u16::try_from(amount).ok()?;
         let left = self.residual(way).checked_sub(amount)?;
         Some(match way {
-            Way::Out => Pair {
-                out: left,
-                back: self.back + amount,
+            Way::Forward => Pair {
+                forward: left,
+                reverse: self.reverse + amount,
             },
-            Way::Back => Pair {
-                out: self.out + amount,
-                back: left,
+            Way::Reverse => Pair {
+                forward: self.forward + amount,
+                reverse: left,
             },
         })
     }
