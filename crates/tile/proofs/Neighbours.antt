@@ -4,34 +4,39 @@ use Rattle.std.proofs.lemmas.Bool.{cases_Bool, cases_lt, lt-ltb, le-ltb}
 use Rattle.std.proofs.lemmas.Nat.{mod-mul-add, mul-add-lt, mul-le}
 use Rattle.std.specs.Prelude.{nat_lt}
 use Rattle.tile.specs.Grids.{goes_on, joined}
-use Rattle.tile.specs.Laws.{right_joined, below_joined}
-use Rattle.tile.specs.Theorems.{number, JoinsNeighbours}
+use Rattle.tile.specs.Laws.{right_neighbour, below_neighbour, right_joined, below_joined}
+use Rattle.tile.specs.Theorems.{pixel_number, JoinsNeighbours}
 
 -- the row of the pixel goes on
-inside_row : (w h x y : ℕ) → x + 1 < w → y < h → (nat_lt (number w x y + 1) (w * h) && goes_on w (number w x y + 1)) ≡ true
+inside_row : (w h x y : ℕ) → x + 1 < w → y < h → (nat_lt (pixel_number w x y + 1) (w * h) && goes_on w (pixel_number w x y + 1)) ≡ true
 inside_row w h x y inside row =
-    let next : number w x y + 1 ≡ y * w + (x + 1) = omega arith in
+    let next : pixel_number w x y + 1 ≡ y * w + (x + 1) = omega arith in
     rw (next, lt-ltb (y * w + (x + 1)) (w * h) (mul-add-lt y w (x + 1) h row inside), mod-mul-add y w (x + 1) inside) (lt-ltb 0 (x + 1) (omega arith))
 
 -- the pixel is the last of its row
-end_of_row : (w n x y : ℕ) → w ≤ x + 1 → x < w → (nat_lt (number w x y + 1) n && goes_on w (number w x y + 1)) ≡ false
+end_of_row : (w n x y : ℕ) → w ≤ x + 1 → x < w → (nat_lt (pixel_number w x y + 1) n && goes_on w (pixel_number w x y + 1)) ≡ false
 end_of_row w n x y last inside =
-    let next : number w x y + 1 ≡ (y + 1) * w + 0 = omega arith in
+    let next : pixel_number w x y + 1 ≡ (y + 1) * w + 0 = omega arith in
     rw (next, mod-mul-add (y + 1) w 0 (omega arith)) (grind (arith, cases_Bool (nat_lt ((y + 1) * w + 0) n)))
 
-right : (w h x y : ℕ) → x < w → y < h → joined w (w * h) (2 * number w x y) ≡ nat_lt (x + 1) w
-right w h x y inside row = right_joined w (w * h) (number w x y) ∙ ⊎_elim
+right : (w h x y : ℕ) → x < w → y < h → joined w (w * h) (2 * pixel_number w x y) ≡ nat_lt (x + 1) w
+right w h x y inside row = right_joined w (w * h) (pixel_number w x y) ∙ ⊎_elim
     (λ (on : x + 1 < w). inside_row w h x y on row ∙ sym (lt-ltb (x + 1) w on))
     (λ (last : w ≤ x + 1). end_of_row w (w * h) x y last inside ∙ sym (le-ltb (x + 1) w last))
     (cases_lt (x + 1) w)
 
-below : (w h x y : ℕ) → x < w → y < h → joined w (w * h) (2 * number w x y + 1) ≡ nat_lt (y + 1) h
+below : (w h x y : ℕ) → x < w → y < h → joined w (w * h) (2 * pixel_number w x y + 1) ≡ nat_lt (y + 1) h
 below w h x y inside row =
-    let next : number w x y + w ≡ (y + 1) * w + x = omega arith in
-    below_joined w (w * h) (number w x y) ∙ ⊎_elim
+    let next : pixel_number w x y + w ≡ (y + 1) * w + x = omega arith in
+    below_joined w (w * h) (pixel_number w x y) ∙ ⊎_elim
     (λ (more : y + 1 < h). rw (next, lt-ltb ((y + 1) * w + x) (w * h) (mul-add-lt (y + 1) w x h more inside)) (sym (lt-ltb (y + 1) h more)))
     (λ (last : h ≤ y + 1). let past : w * h ≤ (y + 1) * w + x = omega (arith, mul-le h w (y + 1) w last (omega arith)) in rw (next, le-ltb ((y + 1) * w + x) (w * h) past) (sym (le-ltb (y + 1) h last)))
     (cases_lt (y + 1) h)
 
 pub joins_neighbours : JoinsNeighbours
-joins_neighbours w h x y inside row = (right w h x y inside row, below w h x y inside row)
+joins_neighbours w h x y inside row = (
+  right w h x y inside row,
+  below w h x y inside row,
+  right_neighbour w (pixel_number w x y) ∙ omega arith,
+  below_neighbour w (pixel_number w x y) ∙ omega arith,
+)

@@ -44,13 +44,13 @@ abbrev pub joins : ℕ → ℕ → Way → Ends
 joins w p Forward = record { tail = owner p; head = neighbour w p; reverse = 2 * p + 1 }
 joins w p Reverse = record { tail = neighbour w p; head = owner p; reverse = 2 * p }
 
--- x, where b holds
-abbrev pub only : Bool → ℕ → List ℕ
-only b x = cond b (x ∷ []) []
+-- x alone where b holds, else nothing
+abbrev pub if_there : Bool → ℕ → List ℕ
+if_there b x = cond b (x ∷ []) []
 
 -- the arcs of pixel v by place: to the right, to the left, down and up, each where there is one
 abbrev pub arcs_of : ℕ → ℕ → ℕ → List ℕ
-arcs_of w n v = only (joined w n (2 * v)) (4 * v) ++ (only (goes_on w v) (4 * (v - 1) + 1) ++ (only (joined w n (2 * v + 1)) (4 * v + 2) ++ only (nat_le w v) (4 * (v - w) + 3)))
+arcs_of w n v = if_there (joined w n (2 * v)) (4 * v) ++ (if_there (goes_on w v) (4 * (v - 1) + 1) ++ (if_there (joined w n (2 * v + 1)) (4 * v + 2) ++ if_there (nat_le w v) (4 * (v - w) + 3)))
 
 -- n pixels in rows of w
 abbrev pub grid : ℕ → ℕ → Graph

@@ -12,7 +12,7 @@ use Rattle.tile.specs.declared.arc.Side.{Side}
 use Rattle.tile.specs.declared.arc.Side.TheVariants.{Right, Below}
 use Rattle.tile.specs.declared.arc.Way.TheVariants.{Forward, Reverse}
 use Rattle.tile.specs.Pixels.{pair_of}
-use Rattle.tile.specs.Grids.{owner, side_of, way_of, neighbour, goes_on, on_tile, joined, joins, only, arcs_of, grid}
+use Rattle.tile.specs.Grids.{owner, side_of, way_of, neighbour, goes_on, on_tile, joined, joins, if_there, arcs_of, grid}
 use Rattle.tile.specs.Tables.{AllSmall, pixel_at, of_pixels}
 
 -- the arcs of pair p are 2p and 2p + 1
@@ -45,27 +45,27 @@ each_arc w n P forward reverse a e is =
     (cases_eq (2 * p) a)
 
 -- what stands at a place of a list that may have x in front
-at_first : (b : Bool) (x y k : ℕ) (ys : List ℕ) → slice_get (only b x ++ ys) k ≡ Some y → ((b ≡ true) × (k ≡ 0) × (y ≡ x)) ⊎ ((j : ℕ) × (slice_get ys j ≡ Some y) × (k ≡ cond b 1 0 + j))
+at_first : (b : Bool) (x y k : ℕ) (ys : List ℕ) → slice_get (if_there b x ++ ys) k ≡ Some y → ((b ≡ true) × (k ≡ 0) × (y ≡ x)) ⊎ ((j : ℕ) × (slice_get ys j ≡ Some y) × (k ≡ cond b 1 0 + j))
 at_first true x y zero ys is = inl (refl, refl, cc)
 at_first true x y (suc k) ys is = inr (k, is, omega arith)
 at_first false x y k ys is = inr (k, is, omega arith)
 
-at_only : (b : Bool) (x y k : ℕ) → slice_get (only b x) k ≡ Some y → (b ≡ true) × (k ≡ 0) × (y ≡ x)
-at_only true x y zero is = (refl, refl, cc)
-at_only true x y (suc k) is = absurd cc
-at_only false x y k is = absurd cc
+at_last : (b : Bool) (x y k : ℕ) → slice_get (if_there b x) k ≡ Some y → (b ≡ true) × (k ≡ 0) × (y ≡ x)
+at_last true x y zero is = (refl, refl, cc)
+at_last true x y (suc k) is = absurd cc
+at_last false x y k is = absurd cc
 
 -- x stands in the list xs
 abbrev Stands : List ℕ → ℕ → Type 0
 Stands xs x = (k : ℕ) × (slice_get xs k ≡ Some x)
 
-stands_only : (b : Bool) (x : ℕ) → b ≡ true → Stands (only b x) x
-stands_only b x is = rw is (0, refl)
+stands_last : (b : Bool) (x : ℕ) → b ≡ true → Stands (if_there b x) x
+stands_last b x is = rw is (0, refl)
 
-stands_first : (b : Bool) (x : ℕ) (ys : List ℕ) → b ≡ true → Stands (only b x ++ ys) x
+stands_first : (b : Bool) (x : ℕ) (ys : List ℕ) → b ≡ true → Stands (if_there b x ++ ys) x
 stands_first b x ys is = rw is (0, refl)
 
-stands_later : (b : Bool) (x y : ℕ) (ys : List ℕ) → Stands ys y → Stands (only b x ++ ys) y
+stands_later : (b : Bool) (x y : ℕ) (ys : List ℕ) → Stands ys y → Stands (if_there b x ++ ys) y
 stands_later true x y ys (k, is) = (suc k, is)
 stands_later false x y ys (k, is) = (k, is)
 
@@ -89,7 +89,7 @@ at_places_of w n v k a is =
     (λ g. inl (g.0, g.2, omega (arith, g.1, h.2)))
     (λ g. inr (⊎_elim
     (λ f. inl (f.0, f.2, omega (arith, f.1, g.2, h.2)))
-    (λ f. inr (let t = at_only (nat_le w v) _ a f.0 f.1 in (t.0, t.2, omega (arith, t.1, f.2, g.2, h.2))))
+    (λ f. inr (let t = at_last (nat_le w v) _ a f.0 f.1 in (t.0, t.2, omega (arith, t.1, f.2, g.2, h.2))))
     (at_first (below_at w n v) _ a g.0 _ g.1)))
     (at_first (goes_on w v) _ a h.0 _ h.1)))
     (at_first (right_at w n v) _ a k _ is)
@@ -109,10 +109,10 @@ pub below_side : (v : ℕ) → side_of (2 * v + 1) ≡ Below
 below_side v = rw (ne_eqb ((2 * v + 1) % 2) 0 (omega arith))
 
 -- the neighbour at the right of pixel v is v + 1, and the one below v + w
-right_neighbour : (w v : ℕ) → neighbour w (2 * v) ≡ v + 1
+pub right_neighbour : (w v : ℕ) → neighbour w (2 * v) ≡ v + 1
 right_neighbour w v = rw (right_side v) (omega arith)
 
-below_neighbour : (w v : ℕ) → neighbour w (2 * v + 1) ≡ v + w
+pub below_neighbour : (w v : ℕ) → neighbour w (2 * v + 1) ≡ v + w
 below_neighbour w v = rw (below_side v) (omega arith)
 
 pub right_joined : (w n v : ℕ) → joined w n (2 * v) ≡ (nat_lt (v + 1) n && goes_on w (v + 1))
@@ -135,10 +135,10 @@ up_joined w n v there above =
 
 -- the arcs of pixel v from the second, the third and the fourth kind on
 abbrev from_left : ℕ → ℕ → ℕ → List ℕ
-from_left w n v = only (goes_on w v) (4 * (v - 1) + 1) ++ (only (below_at w n v) (4 * v + 2) ++ only (nat_le w v) (4 * (v - w) + 3))
+from_left w n v = if_there (goes_on w v) (4 * (v - 1) + 1) ++ (if_there (below_at w n v) (4 * v + 2) ++ if_there (nat_le w v) (4 * (v - w) + 3))
 
 abbrev from_below : ℕ → ℕ → ℕ → List ℕ
-from_below w n v = only (below_at w n v) (4 * v + 2) ++ only (nat_le w v) (4 * (v - w) + 3)
+from_below w n v = if_there (below_at w n v) (4 * v + 2) ++ if_there (nat_le w v) (4 * (v - w) + 3)
 
 -- each arc of pixel v stands among them
 right_stands : (w n v : ℕ) → right_at w n v ≡ true → Stands (arcs_of w n v) (4 * v)
@@ -151,10 +151,10 @@ below_stands : (w n v x : ℕ) → Stands (from_below w n v) x → Stands (arcs_
 below_stands w n v x there = stands_later (right_at w n v) (4 * v) x (from_left w n v) (stands_later (goes_on w v) (4 * (v - 1) + 1) x (from_below w n v) there)
 
 down_stands : (w n v : ℕ) → below_at w n v ≡ true → Stands (arcs_of w n v) (4 * v + 2)
-down_stands w n v there = below_stands w n v (4 * v + 2) (stands_first (below_at w n v) (4 * v + 2) (only (nat_le w v) (4 * (v - w) + 3)) there)
+down_stands w n v there = below_stands w n v (4 * v + 2) (stands_first (below_at w n v) (4 * v + 2) (if_there (nat_le w v) (4 * (v - w) + 3)) there)
 
 up_stands : (w n v : ℕ) → w ≤ v → Stands (arcs_of w n v) (4 * (v - w) + 3)
-up_stands w n v above = below_stands w n v (4 * (v - w) + 3) (stands_later (below_at w n v) (4 * v + 2) (4 * (v - w) + 3) (only (nat_le w v) (4 * (v - w) + 3)) (stands_only (nat_le w v) (4 * (v - w) + 3) (le-leb w v above)))
+up_stands w n v above = below_stands w n v (4 * (v - w) + 3) (stands_later (below_at w n v) (4 * v + 2) (4 * (v - w) + 3) (if_there (nat_le w v) (4 * (v - w) + 3)) (stands_last (nat_le w v) (4 * (v - w) + 3) (le-leb w v above)))
 
 -- so the arcs of a pair stand among those of their tails
 moved_to : (w n v u x y : ℕ) → v ≡ u → x ≡ y → Stands (arcs_of w n v) x → Stands (arcs_of w n u) y

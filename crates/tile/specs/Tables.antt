@@ -5,7 +5,7 @@ use Rattle.tile.specs.declared.pixel.Pixel.{Pixel}
 use Rattle.tile.specs.Pixels.{Small, both, terminal_of, pair_of, residual_of}
 use Rattle.tile.specs.Grids.{owner, side_of, way_of, grid}
 
--- the pixel past the end, which nothing reads
+-- past the pixels that are laid every residual is 0
 abbrev pub no_pixel : Pixel
 no_pixel = record { source = 0; sink = 0; right = both 0; below = both 0 }
 
