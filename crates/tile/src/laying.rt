@@ -1,12 +1,11 @@
 // The calls that make, lay and end a tile.
-ghost use Rattle.std.specs.Prelude.{◌≡◌, ◌+◌, ◌*◌, ◌<◌, length};
-ghost use Rattle.tile.specs.Pixels.{Small};
+ghost use Rattle.std.specs.Prelude.{◌≡◌, ◌*◌, length};
 ghost use Rattle.tile.specs.Tables.{AllSmall};
 ghost use Rattle.tile.specs.Calls.{new_tile, Laid};
 ghost use Rattle.tile.specs.Values.{tile_of};
-ghost use Rattle.tile.specs.Layings.{laid_at, laid_pixels};
+ghost use Rattle.tile.specs.Layings.{laid_pixels};
 
-use super::pixel::Pixel;
+use super::pixel::{Pixel, read_pixel};
 use super::refusal::LayRefusal;
 use super::tile::Tile;
 
@@ -49,21 +48,6 @@ fn write_pixels(pixels: &mut [Pixel], costs: &[u8])
     ensures small { AllSmall pixels.new }
 {
     for (number, pixel) in pixels.iter_mut().enumerate() {
-        *pixel = told(costs, number);
+        *pixel = read_pixel(costs, number);
     }
-}
-
-// What the bytes tell of a pixel.
-fn told(costs: &[u8], number: usize) -> Pixel
-    requires { 4 * number + 3 < length costs.now }
-    ensures is { result ≡ laid_at costs.now number }
-    ensures small { Small result }
-{
-    let first = 4 * number;
-    Pixel::laid(
-        costs[first],
-        costs[first + 1],
-        costs[first + 2],
-        costs[first + 3],
-    )
 }

@@ -1,6 +1,7 @@
 // One record of a tile's table: a pixel's residuals, and how they are read and changed.
-ghost use Rattle.std.specs.Prelude.{◌≡◌, ◌+◌, ◌≤◌, cond, Some, None, nat_le};
-ghost use Rattle.tile.specs.Pixels.{terminal_of, put_terminal, pair_of, put_pair, residual_of, moved, laid_pixel};
+ghost use Rattle.std.specs.Prelude.{◌≡◌, ◌+◌, ◌*◌, ◌<◌, ◌≤◌, cond, Some, None, length, nat_le};
+ghost use Rattle.tile.specs.Pixels.{Small, terminal_of, put_terminal, pair_of, put_pair, residual_of, moved, laid_pixel};
+ghost use Rattle.tile.specs.Layings.{laid_at};
 
 use super::arc::{Side, Way};
 use network::Terminal;
@@ -129,4 +130,19 @@ impl Pixel {
             },
         }
     }
+}
+
+// What the four bytes of a pixel tell: its cost as line, its cost as tone, the penalty to the right and the penalty to below.
+pub(crate) fn read_pixel(costs: &[u8], number: usize) -> Pixel
+    requires { 4 * number + 3 < length costs.now }
+    ensures is { result ≡ laid_at costs.now number }
+    ensures small { Small result }
+{
+    let first = 4 * number;
+    Pixel::laid(
+        costs[first],
+        costs[first + 1],
+        costs[first + 2],
+        costs[first + 3],
+    )
 }

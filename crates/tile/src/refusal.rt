@@ -6,6 +6,7 @@ ghost use Rattle.tile.specs.Tiles.{penalty};
 ghost use Rattle.tile.specs.Accepted.{Lays};
 
 use super::arc::{Side, is_joined};
+use super::pixel::read_pixel;
 
 // The most pixels of a side.
 pub const MOST_SIDE: usize = 64;
@@ -71,15 +72,12 @@ fn is_sized(pixels: usize) -> bool
 }
 
 // The penalty between the pixels of a pair.
-fn penalty(costs: &[u8], pair: usize) -> u8
+fn penalty(costs: &[u8], pair: usize) -> u16
     requires { 4 * (pair / 2) + 3 < length costs.now }
     ensures { result ≡ penalty costs.now pair }
 {
-    let first = 4 * (pair / 2);
-    match Side::of(pair) {
-        Side::Right => costs[first + 2],
-        Side::Below => costs[first + 3],
-    }
+    let pixel = read_pixel(costs, pair / 2);
+    pixel.pair(Side::of(pair)).forward
 }
 
 // Whether there is a penalty between a pixel and one that is not on the tile.

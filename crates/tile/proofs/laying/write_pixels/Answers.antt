@@ -14,10 +14,10 @@ loop-number-preserved c =
     let v = c.loop-number.number in
     let more = map-range_with_len_more (laid_at c.args.costs.now) 0 v v (omega arith) in
     let (written, long, small) = c.loop-number.invariant in (
-      take_more_set now v c.told.result (omega (arith, long, c.loop-number-test.true)) ∙ rw (written, c.told.ensures.is) (sym more),
-      length-set now v c.told.result ∙ long,
+      take_more_set now v c.read_pixel.result (omega (arith, long, c.loop-number-test.true)) ∙ rw (written, c.read_pixel.ensures.is) (sym more),
+      length-set now v c.read_pixel.result ∙ long,
       λ u there. ⊎_elim
-          (λ (is : u ≡ v). subst (λ k. Small (laid_at c.args.costs.now k)) (sym is) (subst Small c.told.ensures.is c.told.ensures.small))
+          (λ (is : u ≡ v). subst (λ k. Small (laid_at c.args.costs.now k)) (sym is) (subst Small c.read_pixel.ensures.is c.read_pixel.ensures.small))
           (λ (other : u ≡ v → ⊥). small u (omega (arith, other)))
           (cases_eq u v),
     )
