@@ -1,5 +1,5 @@
 -- Changes of one pixel's record, and what they change of the network that the pixels mean.
-use Rattle.std.proofs.Common.{◌≡◌, ℕ, ◌+◌, ◌/◌, ◌<◌, ◌≤◌, true, cond, eqb, List, length, set, take, refl, subst, arith, rules, length-set}
+use Rattle.std.proofs.Common.{◌≡◌, ℕ, ◌/◌, ◌<◌, ◌≤◌, true, cond, eqb, List, length, set, take, refl, subst, arith, rules, length-set}
 use Rattle.std.proofs.lemmas.Bool.Decides.{nat_tests}
 use Rattle.std.proofs.lemmas.List.{get_or-set_same, get_or-set_other, get_or-take, length-take-le}
 use Rattle.std.proofs.Math.Seq.{take-set-lt}
@@ -65,14 +65,11 @@ table_moved w table n a x room there =
     let same : pixel_at (take n table) (owner p) ≡ pixel_at table (owner p) = get_or-take n table (owner p) no_pixel inside in
     rw (take-set-lt n table (owner p) (put_pair (pixel_at table (owner p)) (side_of p) (moved (pair_of (pixel_at table (owner p)) (side_of p)) (way_of a) x)) inside, ← same) (value_moved w (take n table) a x (rw long there))
 
--- the record of a pixel is small, and so are its pairs of residuals, with an amount moved too
+-- the record of a pixel is small, with an amount moved between two of its residuals too
 pub small_at : (table : List Pixel) (n i : ℕ) → n ≤ length table → AllSmall (take n table) → i < n → Small (pixel_at table i)
 small_at table n i room small there =
     let long = length-take-le n table room in
     subst Small (get_or-take n table i no_pixel there) (small i (omega arith))
-
-pub pair_small : (x : Pixel) (s : Side) → Small x → (pair_of x s).forward + (pair_of x s).reverse ≤ 510
-pair_small x s small = elim s as (λ s. (pair_of x s).forward + (pair_of x s).reverse ≤ 510) [ Right ↦ small.2 | Below ↦ small.3 ]
 
 pub small_moved : (x : Pixel) (s : Side) (y : Way) (k : ℕ) → Small x → k ≤ residual_of (pair_of x s) y → Small (put_pair x s (moved (pair_of x s) y k))
 small_moved x Right Forward k small most = (small.0, small.1, omega (arith, small.2), small.3)

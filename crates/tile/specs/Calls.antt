@@ -22,7 +22,7 @@ new_tile table = record { table = table; width = 0; height = 0; net = tile_netwo
 -- it is the same borrow of a table, told by its name, and the records from n on are as they were
 pub record SparedFrom (n : ℕ) (before after : MutBor (List Pixel)) : Type 0 where
   pub same_table : after.ghost_name ≡ before.ghost_name
-  pub length : length after.now ≡ length before.now
+  pub as_long : length after.now ≡ length before.now
   pub untouched : drop n after.now ≡ drop n before.now
 
 -- the costs bs are laid on the tile s, in rows of w, and t stands: their network, which keeps the laws, and in which each selection

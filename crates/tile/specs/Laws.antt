@@ -11,7 +11,7 @@ use Rattle.tile.specs.declared.pixel.Pixel.{Pixel}
 use Rattle.tile.specs.declared.arc.Side.{Side}
 use Rattle.tile.specs.declared.arc.Side.TheVariants.{Right, Below}
 use Rattle.tile.specs.declared.arc.Way.TheVariants.{Forward, Reverse}
-use Rattle.tile.specs.Pixels.{pair_of}
+use Rattle.tile.specs.Pixels.{Small, pair_of}
 use Rattle.tile.specs.Grids.{owner, side_of, way_of, neighbour, goes_on, on_tile, joined, joins, if_there, arcs_of, grid}
 use Rattle.tile.specs.Tables.{AllSmall, pixel_at, of_pixels}
 
@@ -207,12 +207,15 @@ graph_lawful w n few = record {
         (λ h. let above : w ≤ v = leb-true w v h.0 in arc_reverse v (2 * (v - w) + 1) a (up_joined w n v there above) (below_neighbour w (v - w) ∙ omega arith) (omega (arith, h.1)))))
         (at_places_of w n v k a is)
 
+-- the residuals between a small pixel and a neighbour
+pub pair_small : (x : Pixel) (s : Side) → Small x → (pair_of x s).forward + (pair_of x s).reverse ≤ 510
+pair_small x s small = elim s as (λ s. (pair_of x s).forward + (pair_of x s).reverse ≤ 510) [ Right ↦ small.2 | Below ↦ small.3 ]
+
 -- the residuals of a pair's two arcs
-pair_small : (pixels : List Pixel) (w p : ℕ) → AllSmall pixels → owner p < length pixels → (of_pixels w pixels).residual (2 * p) + (of_pixels w pixels).residual (2 * p + 1) ≤ 2 ^ 40
-pair_small pixels w p small there =
-    let x = pixel_at pixels (owner p) in
-    let sum : (s : Side) → (pair_of x s).forward + (pair_of x s).reverse ≤ 2 ^ 40 = λ s. elim s as (λ s. (pair_of x s).forward + (pair_of x s).reverse ≤ 2 ^ 40) [ Right ↦ omega (arith, small (owner p) there) | Below ↦ omega (arith, small (owner p) there) ] in
-    rw (pair_out p, forward_way p, pair_back p, reverse_way p) (sum (side_of p))
+arcs_small : (pixels : List Pixel) (w p : ℕ) → AllSmall pixels → owner p < length pixels → (of_pixels w pixels).residual (2 * p) + (of_pixels w pixels).residual (2 * p + 1) ≤ 2 ^ 40
+arcs_small pixels w p small there =
+    let most = pair_small (pixel_at pixels (owner p)) (side_of p) (small (owner p) there) in
+    rw (pair_out p, forward_way p, pair_back p, reverse_way p) (omega (arith, most))
 
 pub lawful : (w : ℕ) (pixels : List Pixel) → length pixels ≤ 4096 → AllSmall pixels → Lawful (of_pixels w pixels)
 lawful w pixels few small =
@@ -222,6 +225,6 @@ lawful w pixels few small =
       graph = graph_lawful w n few;
       small = λ t u there. elim t as (λ t. v.terminal t u ≤ 2 ^ 40) [ Source ↦ omega (arith, small u there) | Sink ↦ omega (arith, small u there) ];
       small_pair = each_arc w n (λ a e. v.residual a + v.residual e.reverse ≤ 2 ^ 40)
-          (λ p there. pair_small pixels w p small (omega (arith, both_there w n p there)))
-          (λ p there. omega (arith, pair_small pixels w p small (omega (arith, both_there w n p there))));
+          (λ p there. arcs_small pixels w p small (omega (arith, both_there w n p there)))
+          (λ p there. omega (arith, arcs_small pixels w p small (omega (arith, both_there w n p there))));
     }

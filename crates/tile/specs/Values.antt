@@ -32,13 +32,13 @@ tile_keeps x y = StillLaid (tile_of x) (tile_of y)
 
 pub tile_keeping : Keeping tile_keeps
 tile_keeping = record {
-  same = λ x. record { width = refl; height = refl; spared = record { same_table = refl; length = refl; untouched = refl } };
+  same = λ x. record { width = refl; height = refl; spared = record { same_table = refl; as_long = refl; untouched = refl } };
   then = λ x y z first second. record {
     width = second.width ∙ first.width;
     height = second.height ∙ first.height;
     spared = record {
       same_table = second.spared.same_table ∙ first.spared.same_table;
-      length = second.spared.length ∙ first.spared.length;
+      as_long = second.spared.as_long ∙ first.spared.as_long;
       untouched = (rw (first.width, first.height) at second.spared.untouched) ∙ first.spared.untouched;
     };
   };

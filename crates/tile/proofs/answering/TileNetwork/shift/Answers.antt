@@ -5,8 +5,9 @@ use Rattle.network.specs.Answers.{done, shift_answer}
 use Rattle.network.specs.declared.refusal.NetworkRefusal.TheVariants.{AboveResidual}
 use Rattle.tile.specs.Grids.{owner, side_of, way_of, joined}
 use Rattle.tile.specs.Pixels.{pair_of, put_pair, residual_of, moved}
+use Rattle.tile.specs.Laws.{pair_small}
 use Rattle.tile.specs.Tables.{pixel_at, of_pixels}
-use Rattle.tile.proofs.Changes.{small_at, pair_small, small_moved, table_small, table_moved, table_answer}
+use Rattle.tile.proofs.Changes.{small_at, small_moved, table_small, table_moved, table_answer}
 use Rattle.tile.proofs.answering.TileNetwork.shift.Goals as goal
 
 pub moved-moved-requires : goal.moved-moved-requires

@@ -15,6 +15,6 @@ returns c =
         network = laid.network;
         lawful = laid.lawful;
         energy = laid.energy;
-        spared = record { same_table = refl; length = laid.length; untouched = laid.untouched };
+        spared = record { same_table = refl; as_long = laid.length; untouched = laid.untouched };
       },
     )
