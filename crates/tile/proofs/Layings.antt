@@ -4,19 +4,20 @@ use Rattle.std.proofs.lemmas.Bool.{cases_lt}
 use Rattle.std.proofs.lemmas.Nat.{mul-le}
 use Rattle.std.proofs.lemmas.List.{get_or_past, length-append, length-drop, length-take-le, take_at, drop_at}
 use Rattle.std.proofs.lemmas.List.FromFn.{length-map-range_with_len, get_or-map-range_with_len}
+use Rattle.std.specs.Borrow.{MutBor}
 use Rattle.network.specs.declared.terminal.Terminal.{Terminal}
 use Rattle.network.specs.declared.terminal.Terminal.TheVariants.{Source, Sink}
 use Rattle.network.specs.Nets.{Lawful}
-use Rattle.network.specs.Cuts.{Selection, cost}
 use Rattle.tile.specs.declared.arc.Side.{Side}
 use Rattle.tile.specs.declared.arc.Side.TheVariants.{Right, Below}
 use Rattle.tile.specs.declared.arc.Way.{Way}
 use Rattle.tile.specs.declared.arc.Way.TheVariants.{Forward, Reverse}
 use Rattle.tile.specs.declared.pixel.Pixel.{Pixel}
 use Rattle.tile.specs.Accepted.{Lays}
+use Rattle.tile.specs.Calls.{State, LaidOn}
 use Rattle.tile.specs.Grids.{owner, side_of, way_of, grid}
 use Rattle.tile.specs.Pixels.{Small, terminal_of, pair_of, residual_of}
-use Rattle.tile.specs.Tiles.{paid_to, penalty_to, tile_network, energy}
+use Rattle.tile.specs.Tiles.{paid_to, penalty_to, tile_network}
 use Rattle.tile.specs.Laws.{lawful}
 use Rattle.tile.specs.Layings.{laid_at, laid_pixels}
 use Rattle.tile.specs.Tables.{AllSmall, no_pixel, pixel_at, of_pixels}
@@ -58,26 +59,25 @@ told_small bs n small v there =
     let inside : v < n = omega (arith, length-map-range_with_len (laid_at bs) 0 n) in
     subst Small (sym (get_or-map-range_with_len (laid_at bs) 0 n v v no_pixel inside (omega arith))) (small v inside)
 
--- the table after a lay: what is laid stands in front, and the records behind are as they were
-pub record LaidTable (w h : ℕ) (bs : List ℕ) (before after : List Pixel) : Type 0 where
-  pub network : of_pixels w (take (w * h) after) ≡ tile_network w h bs
-  pub lawful : Lawful (tile_network w h bs)
-  pub energy : (X : Selection) → cost (tile_network w h bs) X ≡ energy w h bs X
-  pub length : length after ≡ length before
-  pub untouched : drop (w * h) after ≡ drop (w * h) before
-
-pub laid_table : (w h : ℕ) (bs : List ℕ) (table new : List Pixel) → Lays w h bs (length table) → new ≡ laid_pixels bs (length (take (w * h) table)) → AllSmall new → LaidTable w h bs table (new ++ drop (w * h) table)
-laid_table w h bs table new ok is small =
+-- the tile after a lay: what is laid stands in front of its table, and the records behind are as they were
+pub laid_on : (s : State) (w h : ℕ) (bs : List ℕ) (table : MutBor (List Pixel)) (new : List Pixel) → Lays w h bs (length s.table.now) → new ≡ laid_pixels bs (length (take (w * h) s.table.now)) → AllSmall new → table.ghost_name ≡ s.table.ghost_name → table.now ≡ new ++ drop (w * h) s.table.now → LaidOn s w h bs (record { table = table; width = w; height = h; net = of_pixels w (take (w * h) table.now) })
+laid_on s w h bs table new ok is small same now =
     let n = w * h in
+    let old = s.table.now in
     let few : n ≤ 64 * 64 = mul-le w h 64 64 ok.narrow ok.low in
-    let room = length-take-le n table ok.room in
+    let room = length-take-le n old ok.room in
     let written : new ≡ laid_pixels bs n = is ∙ ap (laid_pixels bs) room in
     let long : length new ≡ n = ap length written ∙ length-map-range_with_len (laid_at bs) 0 n in
     let network : of_pixels w new ≡ tile_network w h bs = ap (of_pixels w) written ∙ network_laid w h bs ok.long in
     record {
-      network = ap (of_pixels w) (take_at new (drop n table) n long) ∙ network;
+      width = refl;
+      height = refl;
+      network = ap (λ pixels. of_pixels w (take n pixels)) now ∙ ap (of_pixels w) (take_at new (drop n old) n long) ∙ network;
       lawful = subst Lawful network (lawful w new (omega (arith, long)) small);
       energy = λ X. energy_is_cost w h bs X (omega arith);
-      length = length-append new (drop n table) ∙ omega (arith, long, length-drop n table, ok.room);
-      untouched = drop_at new (drop n table) n long;
+      spared = record {
+        same_table = same;
+        as_long = ap length now ∙ length-append new (drop n old) ∙ omega (arith, long, length-drop n old, ok.room);
+        untouched = ap (drop n) now ∙ drop_at new (drop n old) n long;
+      };
     }
