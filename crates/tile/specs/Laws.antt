@@ -78,10 +78,10 @@ below_at w n v = joined w n (2 * v + 1)
 
 -- an arc at a place of pixel v is one of four, and the place says which
 at_places_of : (w n v k a : ℕ) → slice_get (arcs_of w n v) k ≡ Some a →
-    ((right_at w n v ≡ true) × (a ≡ 4 * v) × (k ≡ 0))
-    ⊎ ((goes_on w v ≡ true) × (a ≡ 4 * (v - 1) + 1) × (k ≡ cond (right_at w n v) 1 0))
-    ⊎ ((below_at w n v ≡ true) × (a ≡ 4 * v + 2) × (k ≡ cond (right_at w n v) 1 0 + cond (goes_on w v) 1 0))
-    ⊎ ((nat_le w v ≡ true) × (a ≡ 4 * (v - w) + 3) × (k ≡ cond (right_at w n v) 1 0 + cond (goes_on w v) 1 0 + cond (below_at w n v) 1 0))
+    ((right_at w n v ≡ true) × (a ≡ 2 * (2 * v)) × (k ≡ 0))
+    ⊎ ((goes_on w v ≡ true) × (a ≡ 2 * (2 * (v - 1)) + 1) × (k ≡ cond (right_at w n v) 1 0))
+    ⊎ ((below_at w n v ≡ true) × (a ≡ 2 * (2 * v + 1)) × (k ≡ cond (right_at w n v) 1 0 + cond (goes_on w v) 1 0))
+    ⊎ ((nat_le w v ≡ true) × (a ≡ 2 * (2 * (v - w) + 1) + 1) × (k ≡ cond (right_at w n v) 1 0 + cond (goes_on w v) 1 0 + cond (below_at w n v) 1 0))
 at_places_of w n v k a is =
     ⊎_elim
     (λ h. inl (h.0, h.2, h.1))
@@ -135,26 +135,26 @@ up_joined w n v there above =
 
 -- the arcs of pixel v from the second, the third and the fourth kind on
 abbrev from_left : ℕ → ℕ → ℕ → List ℕ
-from_left w n v = if_there (goes_on w v) (4 * (v - 1) + 1) ++ (if_there (below_at w n v) (4 * v + 2) ++ if_there (nat_le w v) (4 * (v - w) + 3))
+from_left w n v = if_there (goes_on w v) (2 * (2 * (v - 1)) + 1) ++ (if_there (below_at w n v) (2 * (2 * v + 1)) ++ if_there (nat_le w v) (2 * (2 * (v - w) + 1) + 1))
 
 abbrev from_below : ℕ → ℕ → ℕ → List ℕ
-from_below w n v = if_there (below_at w n v) (4 * v + 2) ++ if_there (nat_le w v) (4 * (v - w) + 3)
+from_below w n v = if_there (below_at w n v) (2 * (2 * v + 1)) ++ if_there (nat_le w v) (2 * (2 * (v - w) + 1) + 1)
 
 -- each arc of pixel v stands among them
-right_stands : (w n v : ℕ) → right_at w n v ≡ true → Stands (arcs_of w n v) (4 * v)
-right_stands w n v there = stands_first (right_at w n v) (4 * v) (from_left w n v) there
+right_stands : (w n v : ℕ) → right_at w n v ≡ true → Stands (arcs_of w n v) (2 * (2 * v))
+right_stands w n v there = stands_first (right_at w n v) (2 * (2 * v)) (from_left w n v) there
 
-left_stands : (w n v : ℕ) → goes_on w v ≡ true → Stands (arcs_of w n v) (4 * (v - 1) + 1)
-left_stands w n v there = stands_later (right_at w n v) (4 * v) (4 * (v - 1) + 1) (from_left w n v) (stands_first (goes_on w v) (4 * (v - 1) + 1) (from_below w n v) there)
+left_stands : (w n v : ℕ) → goes_on w v ≡ true → Stands (arcs_of w n v) (2 * (2 * (v - 1)) + 1)
+left_stands w n v there = stands_later (right_at w n v) (2 * (2 * v)) (2 * (2 * (v - 1)) + 1) (from_left w n v) (stands_first (goes_on w v) (2 * (2 * (v - 1)) + 1) (from_below w n v) there)
 
 below_stands : (w n v x : ℕ) → Stands (from_below w n v) x → Stands (arcs_of w n v) x
-below_stands w n v x there = stands_later (right_at w n v) (4 * v) x (from_left w n v) (stands_later (goes_on w v) (4 * (v - 1) + 1) x (from_below w n v) there)
+below_stands w n v x there = stands_later (right_at w n v) (2 * (2 * v)) x (from_left w n v) (stands_later (goes_on w v) (2 * (2 * (v - 1)) + 1) x (from_below w n v) there)
 
-down_stands : (w n v : ℕ) → below_at w n v ≡ true → Stands (arcs_of w n v) (4 * v + 2)
-down_stands w n v there = below_stands w n v (4 * v + 2) (stands_first (below_at w n v) (4 * v + 2) (if_there (nat_le w v) (4 * (v - w) + 3)) there)
+down_stands : (w n v : ℕ) → below_at w n v ≡ true → Stands (arcs_of w n v) (2 * (2 * v + 1))
+down_stands w n v there = below_stands w n v (2 * (2 * v + 1)) (stands_first (below_at w n v) (2 * (2 * v + 1)) (if_there (nat_le w v) (2 * (2 * (v - w) + 1) + 1)) there)
 
-up_stands : (w n v : ℕ) → w ≤ v → Stands (arcs_of w n v) (4 * (v - w) + 3)
-up_stands w n v above = below_stands w n v (4 * (v - w) + 3) (stands_later (below_at w n v) (4 * v + 2) (4 * (v - w) + 3) (if_there (nat_le w v) (4 * (v - w) + 3)) (stands_last (nat_le w v) (4 * (v - w) + 3) (le-leb w v above)))
+up_stands : (w n v : ℕ) → w ≤ v → Stands (arcs_of w n v) (2 * (2 * (v - w) + 1) + 1)
+up_stands w n v above = below_stands w n v (2 * (2 * (v - w) + 1) + 1) (stands_later (below_at w n v) (2 * (2 * v + 1)) (2 * (2 * (v - w) + 1) + 1) (if_there (nat_le w v) (2 * (2 * (v - w) + 1) + 1)) (stands_last (nat_le w v) (2 * (2 * (v - w) + 1) + 1) (le-leb w v above)))
 
 -- so the arcs of a pair stand among those of their tails
 moved_to : (w n v u x y : ℕ) → v ≡ u → x ≡ y → Stands (arcs_of w n v) x → Stands (arcs_of w n u) y
@@ -162,15 +162,15 @@ moved_to w n v u x y is same there = subst₂ (λ v x. Stands (arcs_of w n v) x)
 
 forward_stands : (w n p : ℕ) → joined w n p ≡ true → Stands (arcs_of w n (owner p)) (2 * p)
 forward_stands w n = each_pair (λ p. joined w n p ≡ true → Stands (arcs_of w n (owner p)) (2 * p))
-    (λ v there. moved_to w n v (owner (2 * v)) (4 * v) (2 * (2 * v)) (omega arith) (omega arith) (right_stands w n v there))
-    (λ v there. moved_to w n v (owner (2 * v + 1)) (4 * v + 2) (2 * (2 * v + 1)) (omega arith) (omega arith) (down_stands w n v there))
+    (λ v there. moved_to w n v (owner (2 * v)) (2 * (2 * v)) (2 * (2 * v)) (omega arith) (omega arith) (right_stands w n v there))
+    (λ v there. moved_to w n v (owner (2 * v + 1)) (2 * (2 * v + 1)) (2 * (2 * v + 1)) (omega arith) (omega arith) (down_stands w n v there))
 
 reverse_stands : (w n p : ℕ) → joined w n p ≡ true → Stands (arcs_of w n (neighbour w p)) (2 * p + 1)
 reverse_stands w n = each_pair (λ p. joined w n p ≡ true → Stands (arcs_of w n (neighbour w p)) (2 * p + 1))
     (λ v there.
     let on = and_parts (nat_lt (v + 1) n) (goes_on w (v + 1)) (sym (right_joined w n v) ∙ there) in
-    moved_to w n (v + 1) (neighbour w (2 * v)) (4 * (v + 1 - 1) + 1) (2 * (2 * v) + 1) (sym (right_neighbour w v)) (omega arith) (left_stands w n (v + 1) on.1))
-    (λ v there. moved_to w n (v + w) (neighbour w (2 * v + 1)) (4 * (v + w - w) + 3) (2 * (2 * v + 1) + 1) (sym (below_neighbour w v)) (omega arith) (up_stands w n (v + w) (omega arith)))
+    moved_to w n (v + 1) (neighbour w (2 * v)) (2 * (2 * (v + 1 - 1)) + 1) (2 * (2 * v) + 1) (sym (right_neighbour w v)) (omega arith) (left_stands w n (v + 1) on.1))
+    (λ v there. moved_to w n (v + w) (neighbour w (2 * v + 1)) (2 * (2 * (v + w - w) + 1) + 1) (2 * (2 * v + 1) + 1) (sym (below_neighbour w v)) (omega arith) (up_stands w n (v + w) (omega arith)))
 
 -- both pixels of a pair are on the tile
 both_there : (w n p : ℕ) → joined w n p ≡ true → (owner p < n) × (neighbour w p < n) × (owner p ≤ neighbour w p)
@@ -199,12 +199,12 @@ graph_lawful w n few = record {
     own : (v k a : ℕ) → v < n → slice_get (arcs_of w n v) k ≡ Some a → (e : Ends) × ((grid w n).ends a ≡ Some e) × (e.tail ≡ v)
     own v k a there is =
         ⊎_elim
-        (λ h. arc_forward v (2 * v) a h.0 (pair_out v) (omega (arith, h.1)))
+        (λ h. arc_forward v (2 * v) a h.0 (pair_out v) h.1)
         (⊎_elim
-        (λ h. let some : 0 < v = grind (arith, nat_tests, h.0) in arc_reverse v (2 * (v - 1)) a (left_joined w n v there h.0) (right_neighbour w (v - 1) ∙ omega arith) (omega (arith, h.1)))
+        (λ h. let some : 0 < v = grind (arith, nat_tests, h.0) in arc_reverse v (2 * (v - 1)) a (left_joined w n v there h.0) (right_neighbour w (v - 1) ∙ omega arith) h.1)
         (⊎_elim
-        (λ h. arc_forward v (2 * v + 1) a h.0 (pair_back v) (omega (arith, h.1)))
-        (λ h. let above : w ≤ v = leb-true w v h.0 in arc_reverse v (2 * (v - w) + 1) a (up_joined w n v there above) (below_neighbour w (v - w) ∙ omega arith) (omega (arith, h.1)))))
+        (λ h. arc_forward v (2 * v + 1) a h.0 (pair_back v) h.1)
+        (λ h. let above : w ≤ v = leb-true w v h.0 in arc_reverse v (2 * (v - w) + 1) a (up_joined w n v there above) (below_neighbour w (v - w) ∙ omega arith) h.1)))
         (at_places_of w n v k a is)
 
 -- the residuals between a small pixel and a neighbour

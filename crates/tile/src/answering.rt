@@ -53,10 +53,14 @@ impl<'a> Network for Tile<'a> {
     fn arc_at(&self, node: usize, place: usize) -> Result<Option<usize>, NetworkRefusal> {
         self.pixel(node)?;
         let (width, pixels) = (self.width, self.node_count());
-        let right = is_joined(width, pixels, 2 * node).then_some(4 * node);
-        let left = goes_on(width, node).then(|| 4 * node - 3);
-        let down = is_joined(width, pixels, 2 * node + 1).then_some(4 * node + 2);
-        let up = node.checked_sub(width).map(|above| 4 * above + 3);
+        // the pixel's own pairs; the arcs to the left and up are of the pairs of the pixels there
+        let (at_right, below) = (2 * node, 2 * node + 1);
+        let right = is_joined(width, pixels, at_right).then_some(Way::Forward.arc(at_right));
+        let left = goes_on(width, node).then(|| Way::Reverse.arc(2 * (node - 1)));
+        let down = is_joined(width, pixels, below).then_some(Way::Forward.arc(below));
+        let up = node
+            .checked_sub(width)
+            .map(|above| Way::Reverse.arc(2 * above + 1));
         Ok(nth_there([right, left, down, up], place))
     }
 

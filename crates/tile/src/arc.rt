@@ -1,6 +1,6 @@
 // The arcs of a tile, by the pairs that they come in: pair 2v joins pixel v to the one at its right, and pair 2v + 1 to the one below.
-ghost use Rattle.std.specs.Prelude.{◌≡◌, ◌+◌, ◌<◌, ◌≤◌};
-ghost use Rattle.tile.specs.Grids.{side_of, way_of, step, goes_on, neighbour, joined};
+ghost use Rattle.std.specs.Prelude.{◌≡◌, ◌+◌, ◌^◌, ◌<◌, ◌≤◌};
+ghost use Rattle.tile.specs.Grids.{side_of, way_of, arc_of, step, goes_on, neighbour, joined};
 
 // Where the neighbour lies that a pair joins its pixel to.
 #[derive(Clone, Copy, PartialEq, Eq, Debug)]
@@ -48,6 +48,17 @@ impl Way {
             Way::Forward
         } else {
             Way::Reverse
+        }
+    }
+
+    // The arc of a pair.
+    pub(crate) fn arc(self, pair: usize) -> usize
+        requires { pair < 2 ^ 63 }
+        ensures { result ≡ arc_of pair self }
+    {
+        match self {
+            Way::Forward => 2 * pair,
+            Way::Reverse => 2 * pair + 1,
         }
     }
 }
