@@ -5,7 +5,7 @@ use Rattle.std.specs.List.{flat_map, range_with_len, list_any}
 use Rattle.std.proofs.lemmas.Bool.{le-leb, eq-eqb, le-ltb}
 use Rattle.std.proofs.lemmas.List.{length-append, get_or_append_left, get_or-append_right}
 use Rattle.tile.specs.Grids.{joined}
-use Rattle.tile.specs.Laws.{each_pair, right_side, below_side, pair_out, pair_back}
+use Rattle.tile.specs.Laws.{each_pair, right_side, below_side, pair_forward, pair_reverse}
 use Rattle.tile.specs.Tiles.{penalty as penalty_laid}
 use Rattle.tile.specs.Refusals.{off_tile, lay_refusal}
 use Rattle.tile.proofs.Neighbours.{joins_neighbours}
@@ -65,10 +65,10 @@ pair_inside : (i : Image) (a : Area) (p : ℕ) → p < 2 * pixel_count a → (no
 pair_inside i a = each_pair (λ p. p < 2 * pixel_count a → (not (joined a.width (pixel_count a) p) && nat_lt 0 (penalty_laid (area_costs i a) p)) ≡ false)
     (λ v there.
     let inside : v < pixel_count a = omega arith in
-    rw (right_joined a v inside, right_side v, pair_out v, cost_at i a v 2 inside (omega arith)) (no_penalty (has_right a v) _))
+    rw (right_joined a v inside, right_side v, pair_forward v, cost_at i a v 2 inside (omega arith)) (no_penalty (has_right a v) _))
     (λ v there.
     let inside : v < pixel_count a = omega arith in
-    rw (below_joined a v inside, below_side v, pair_back v, cost_at i a v 3 inside (omega arith)) (no_penalty (has_below a v) _))
+    rw (below_joined a v inside, below_side v, pair_reverse v, cost_at i a v 3 inside (omega arith)) (no_penalty (has_below a v) _))
 
 costs_inside : (i : Image) (a : Area) → off_tile a.width (pixel_count a) (area_costs i a) ≡ false
 costs_inside i a = none_passes _ 0 (2 * pixel_count a) (λ p there. pair_inside i a p (omega arith))

@@ -4,7 +4,7 @@ use Rattle.std.proofs.lemmas.Bool.{ltb-true}
 use Rattle.network.specs.Cuts.{Selection, sum_below}
 use Rattle.network.proofs.Sums.{sum_same}
 use Rattle.tile.specs.Grids.{owner, neighbour, joined}
-use Rattle.tile.specs.Laws.{right_side, below_side, pair_out, pair_back}
+use Rattle.tile.specs.Laws.{right_side, below_side, pair_forward, pair_reverse}
 use Rattle.tile.specs.Tiles.{penalty as penalty_laid, line, tone, differ}
 use Rattle.tile.proofs.Energies.{sum_pairs}
 use Rattle.netpbm.specs.Images.{Image}
@@ -40,13 +40,13 @@ where_there false differs x y same = refl
 paid_right : (i : Image) (a : Area) (X : Selection) (v : ℕ) → v < pixel_count a → paid i a X (2 * v) ≡ cond (has_right a v && differ (X v) (X (v + 1))) (penalty (grey_of i a v) (grey_of i a (v + 1))) 0
 paid_right i a X v there =
     let same : has_right a v ≡ true → penalty (grey_of i a v) (grey i (place i.width a v + 1)) ≡ penalty (grey_of i a v) (grey_of i a (v + 1)) = λ more. ap (λ p. penalty (grey_of i a v) (grey i p)) (sym (right_place i.width v a (ltb-true _ _ more))) in
-    rw (right_joined a v there, right_side v, pair_out v, cost_at i a v 2 there (omega arith)) (where_there (has_right a v) (differ (X v) (X (v + 1))) _ _ same)
+    rw (right_joined a v there, right_side v, pair_forward v, cost_at i a v 2 there (omega arith)) (where_there (has_right a v) (differ (X v) (X (v + 1))) _ _ same)
 
 paid_below : (i : Image) (a : Area) (X : Selection) (v : ℕ) → v < pixel_count a → paid i a X (2 * v + 1) ≡ cond (has_below a v && differ (X v) (X (v + a.width))) (penalty (grey_of i a v) (grey_of i a (v + a.width))) 0
 paid_below i a X v there =
     let (_, _, column, _) = split_rows a.height a.width v (omega arith) in
     let same : has_below a v ≡ true → penalty (grey_of i a v) (grey i (place i.width a v + i.width)) ≡ penalty (grey_of i a v) (grey_of i a (v + a.width)) = λ _. ap (λ p. penalty (grey_of i a v) (grey i p)) (sym (below_place i.width v a column)) in
-    rw (below_joined a v there, below_side v, pair_back v, cost_at i a v 3 there (omega arith)) (where_there (has_below a v) (differ (X v) (X (v + a.width))) _ _ same)
+    rw (below_joined a v there, below_side v, pair_reverse v, cost_at i a v 3 there (omega arith)) (where_there (has_below a v) (differ (X v) (X (v + a.width))) _ _ same)
 
 -- all pairs pay the penalties to the right and to below
 all_paid : (i : Image) (a : Area) (X : Selection) → sum_below (2 * pixel_count a) (paid i a X) ≡ penalties_right i a X + penalties_below i a X

@@ -4,7 +4,7 @@ use Rattle.std.proofs.lemmas.Bool.{cases_Bool, le-ltb}
 use Rattle.network.specs.Cuts.{Selection, sum_below, node_cost, arc_cost, cost}
 use Rattle.network.proofs.Sums.{sum_same, sum_past}
 use Rattle.tile.specs.Grids.{owner, neighbour, joined}
-use Rattle.tile.specs.Laws.{pair_out, pair_back, forward_there, reverse_there}
+use Rattle.tile.specs.Laws.{pair_forward, pair_reverse, forward_there, reverse_there}
 use Rattle.tile.specs.Tiles.{penalty, tile_network, differ, energy}
 
 -- a sum over twice as many numbers takes them two by two
@@ -26,8 +26,8 @@ to_and_fro false false k = refl
 -- the two arcs of a pair pay its penalty where one pixel is line and the other tone
 pair_cost : (w h : ℕ) (bs : List ℕ) (X : Selection) (p : ℕ) → arc_cost (tile_network w h bs) X (2 * p) + arc_cost (tile_network w h bs) X (2 * p + 1) ≡ cond (joined w (w * h) p && differ (X (owner p)) (X (neighbour w p))) (penalty bs p) 0
 pair_cost w h bs X p = ⊎_elim
-    (λ (there : joined w (w * h) p ≡ true). rw (forward_there w (w * h) p there, reverse_there w (w * h) p there, pair_out p, pair_back p, there) (to_and_fro (X (owner p)) (X (neighbour w p)) (penalty bs p)))
-    (λ (none : joined w (w * h) p ≡ false). rw (pair_out p, pair_back p, none) refl)
+    (λ (there : joined w (w * h) p ≡ true). rw (forward_there w (w * h) p there, reverse_there w (w * h) p there, pair_forward p, pair_reverse p, there) (to_and_fro (X (owner p)) (X (neighbour w p)) (penalty bs p)))
+    (λ (none : joined w (w * h) p ≡ false). rw (pair_forward p, pair_reverse p, none) refl)
     (cases_Bool (joined w (w * h) p))
 
 -- there are no pairs past the last pixel's

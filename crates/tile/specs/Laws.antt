@@ -16,11 +16,11 @@ use Rattle.tile.specs.Grids.{owner, side_of, way_of, neighbour, goes_on, on_tile
 use Rattle.tile.specs.Tables.{AllSmall, pixel_at, of_pixels}
 
 -- the arcs of pair p are 2p and 2p + 1
-pub pair_out : (p : ℕ) → (2 * p) / 2 ≡ p
-pair_out p = omega arith
+pub pair_forward : (p : ℕ) → (2 * p) / 2 ≡ p
+pair_forward p = omega arith
 
-pub pair_back : (p : ℕ) → (2 * p + 1) / 2 ≡ p
-pair_back p = omega arith
+pub pair_reverse : (p : ℕ) → (2 * p + 1) / 2 ≡ p
+pair_reverse p = omega arith
 
 forward_way : (p : ℕ) → way_of (2 * p) ≡ Forward
 forward_way p = rw (eq-eqb ((2 * p) % 2) 0 (omega arith))
@@ -29,10 +29,10 @@ reverse_way : (p : ℕ) → way_of (2 * p + 1) ≡ Reverse
 reverse_way p = rw (ne_eqb ((2 * p + 1) % 2) 0 (omega arith))
 
 pub forward_there : (w n p : ℕ) → joined w n p ≡ true → (grid w n).ends (2 * p) ≡ Some (joins w p Forward)
-forward_there w n p h = rw (pair_out p, forward_way p, h)
+forward_there w n p h = rw (pair_forward p, forward_way p, h)
 
 pub reverse_there : (w n p : ℕ) → joined w n p ≡ true → (grid w n).ends (2 * p + 1) ≡ Some (joins w p Reverse)
-reverse_there w n p h = rw (pair_back p, reverse_way p, h)
+reverse_there w n p h = rw (pair_reverse p, reverse_way p, h)
 
 -- what holds of both arcs of each pair on the tile holds of each arc
 each_arc : (w n : ℕ) (P : ℕ → Ends → Type 0) → ((p : ℕ) → joined w n p ≡ true → P (2 * p) (joins w p Forward)) → ((p : ℕ) → joined w n p ≡ true → P (2 * p + 1) (joins w p Reverse)) → (a : ℕ) (e : Ends) → (grid w n).ends a ≡ Some e → P a e
@@ -116,10 +116,10 @@ pub below_neighbour : (w v : ℕ) → neighbour w (2 * v + 1) ≡ v + w
 below_neighbour w v = rw (below_side v) (omega arith)
 
 pub right_joined : (w n v : ℕ) → joined w n (2 * v) ≡ (nat_lt (v + 1) n && goes_on w (v + 1))
-right_joined w n v = rw (right_side v, pair_out v) refl
+right_joined w n v = rw (right_side v, pair_forward v) refl
 
 pub below_joined : (w n v : ℕ) → joined w n (2 * v + 1) ≡ (nat_lt (v + w) n && true)
-below_joined w n v = rw (below_side v, pair_back v) refl
+below_joined w n v = rw (below_side v, pair_reverse v) refl
 
 -- pixel v is joined to the one at its left, and to the one above
 left_joined : (w n v : ℕ) → v < n → goes_on w v ≡ true → joined w n (2 * (v - 1)) ≡ true
@@ -199,11 +199,11 @@ graph_lawful w n few = record {
     own : (v k a : ℕ) → v < n → slice_get (arcs_of w n v) k ≡ Some a → (e : Ends) × ((grid w n).ends a ≡ Some e) × (e.tail ≡ v)
     own v k a there is =
         ⊎_elim
-        (λ h. arc_forward v (2 * v) a h.0 (pair_out v) h.1)
+        (λ h. arc_forward v (2 * v) a h.0 (pair_forward v) h.1)
         (⊎_elim
         (λ h. let some : 0 < v = grind (arith, nat_tests, h.0) in arc_reverse v (2 * (v - 1)) a (left_joined w n v there h.0) (right_neighbour w (v - 1) ∙ omega arith) h.1)
         (⊎_elim
-        (λ h. arc_forward v (2 * v + 1) a h.0 (pair_back v) h.1)
+        (λ h. arc_forward v (2 * v + 1) a h.0 (pair_reverse v) h.1)
         (λ h. let above : w ≤ v = leb-true w v h.0 in arc_reverse v (2 * (v - w) + 1) a (up_joined w n v there above) (below_neighbour w (v - w) ∙ omega arith) h.1)))
         (at_places_of w n v k a is)
 
@@ -215,7 +215,7 @@ pair_small x s small = elim s as (λ s. (pair_of x s).forward + (pair_of x s).re
 arcs_small : (pixels : List Pixel) (w p : ℕ) → AllSmall pixels → owner p < length pixels → (of_pixels w pixels).residual (2 * p) + (of_pixels w pixels).residual (2 * p + 1) ≤ 2 ^ 40
 arcs_small pixels w p small there =
     let most = pair_small (pixel_at pixels (owner p)) (side_of p) (small (owner p) there) in
-    rw (pair_out p, forward_way p, pair_back p, reverse_way p) (omega (arith, most))
+    rw (pair_forward p, forward_way p, pair_reverse p, reverse_way p) (omega (arith, most))
 
 pub lawful : (w : ℕ) (pixels : List Pixel) → length pixels ≤ 4096 → AllSmall pixels → Lawful (of_pixels w pixels)
 lawful w pixels few small =
