@@ -162,8 +162,8 @@ moved_to w n v u x y is same there = subst₂ (λ v x. Stands (arcs_of w n v) x)
 
 forward_stands : (w n p : ℕ) → joined w n p ≡ true → Stands (arcs_of w n (owner p)) (2 * p)
 forward_stands w n = each_pair (λ p. joined w n p ≡ true → Stands (arcs_of w n (owner p)) (2 * p))
-    (λ v there. moved_to w n v (owner (2 * v)) (2 * (2 * v)) (2 * (2 * v)) (omega arith) (omega arith) (right_stands w n v there))
-    (λ v there. moved_to w n v (owner (2 * v + 1)) (2 * (2 * v + 1)) (2 * (2 * v + 1)) (omega arith) (omega arith) (down_stands w n v there))
+    (λ v there. moved_to w n v (owner (2 * v)) (2 * (2 * v)) (2 * (2 * v)) (sym (pair_forward v)) refl (right_stands w n v there))
+    (λ v there. moved_to w n v (owner (2 * v + 1)) (2 * (2 * v + 1)) (2 * (2 * v + 1)) (sym (pair_reverse v)) refl (down_stands w n v there))
 
 reverse_stands : (w n p : ℕ) → joined w n p ≡ true → Stands (arcs_of w n (neighbour w p)) (2 * p + 1)
 reverse_stands w n = each_pair (λ p. joined w n p ≡ true → Stands (arcs_of w n (neighbour w p)) (2 * p + 1))

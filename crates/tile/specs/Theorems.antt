@@ -6,8 +6,7 @@ use Rattle.tile.specs.Grids.{neighbour, joined}
 abbrev pub pixel_number : ℕ → ℕ → ℕ → ℕ
 pixel_number w x y = y * w + x
 
--- a pixel is joined to the one at its right where its row goes on, and to the one below where there is another row; and these are the
--- pixels that the pairs name
+-- the pairs of a pixel join it to the one at its right, where its row goes on, and to the one below, where there is another row
 abbrev pub JoinsNeighbours : Type 0
 JoinsNeighbours =
     (w h x y : ℕ) → x < w → y < h →
