@@ -9,7 +9,7 @@ use Rattle.network.proofs.Carrying.{some_amount}
 use Rattle.search.specs.declared.refusal.RunRefusal.{RunRefusal}
 use Rattle.search.specs.declared.report.Outcome.TheVariants.{Finished, Paused}
 use Rattle.search.specs.declared.report.Report.{Report}
-use Rattle.search.specs.Runs.{Lent, MarksOf, refused, Run, Runs}
+use Rattle.search.specs.Runs.{Lent, MarksOf, refused, Run}
 use Rattle.search.specs.Runs.Runs.{none, then}
 use Rattle.search.specs.Trails.{everything}
 use Rattle.engine.specs.Gains.{Gained}
