@@ -1,10 +1,12 @@
 -- What a network answers to each question and change, refusals with it, and its value afterwards.
 use Rattle.std.specs.Prelude.{ℕ, cond, Some, None, Ok, Err, Option, Result, nat_le, nat_lt}
 use Rattle.std.specs.List.{slice_get}
+use Rattle.std.specs.Option.{option_map}
+use Rattle.network.specs.declared.arc.Arc.{Arc}
 use Rattle.network.specs.declared.refusal.NetworkRefusal.{NetworkRefusal}
 use Rattle.network.specs.declared.refusal.NetworkRefusal.TheVariants.{NoNode, NoArc, AboveResidual}
 use Rattle.network.specs.declared.terminal.Terminal.{Terminal}
-use Rattle.network.specs.Nets.{Ends, Net, taken, shifted}
+use Rattle.network.specs.Nets.{Ends, Graph, Net, taken, shifted}
 
 -- x, where the node is there
 abbrev pub at_node : {A : Type 0} → Net → ℕ → A → Result A NetworkRefusal
@@ -15,6 +17,14 @@ terminal_answer v t u = at_node v u (v.terminal t u)
 
 abbrev pub place_answer : Net → ℕ → ℕ → Result (Option ℕ) NetworkRefusal
 place_answer v u k = at_node v u (slice_get (v.graph.arcs u) k)
+
+-- arc a, told with the node that it leads to and its reverse
+abbrev pub whole : Graph → Option ℕ → Option Arc
+whole g None = None
+whole g (Some a) = option_map (λ e. record { code = a; head = e.head; reverse = e.reverse }) (g.ends a)
+
+abbrev pub arc_answer : Net → ℕ → ℕ → Result (Option Arc) NetworkRefusal
+arc_answer v u k = at_node v u (whole v.graph (slice_get (v.graph.arcs u) k))
 
 -- f of the arc's ends, where the arc is there
 abbrev pub at_arc : {A : Type 0} → (Ends → Result A NetworkRefusal) → Option Ends → Result A NetworkRefusal

@@ -4,13 +4,15 @@
 ghost use Rattle.std.specs.Prelude.{◌≡◌, OnErr};
 ghost use Rattle.network.specs.Nets.{Net, Lawful};
 ghost use Rattle.network.specs.Keeping.{Keeping};
-ghost use Rattle.network.specs.Answers.{terminal_answer, place_answer, ends_answer, residual_answer, take_answer, after_take, shift_answer, after_shift};
+ghost use Rattle.network.specs.Answers.{terminal_answer, place_answer, arc_answer, ends_answer, residual_answer, take_answer, after_take, shift_answer, after_shift};
 
+mod arc;
 mod mark;
 mod refusal;
 mod terminal;
 mod theorems;
 
+pub use arc::Arc;
 pub use mark::Mark;
 pub use refusal::NetworkRefusal;
 pub use terminal::Terminal;
@@ -43,6 +45,21 @@ pub trait Network {
     // The arc's tail, its head and the code of its reverse: three numbers that a rule of the project has told together.
     fn arc_ends(&self, arc: usize) -> Result<(usize, usize, usize), NetworkRefusal>
         ensures { result ≡ ends_answer (value self.now) arc };
+
+    // The arc at a place of the node, told whole. A network that can tell it by one look need not ask twice.
+    fn whole_arc_at(&self, node: usize, place: usize) -> Result<Option<Arc>, NetworkRefusal>
+        ensures { result ≡ arc_answer (value self.now) node place }
+    {
+        let Some(code) = self.arc_at(node, place)? else {
+            return Ok(None);
+        };
+        let (_, head, reverse) = self.arc_ends(code)?;
+        Ok(Some(Arc {
+            code,
+            head,
+            reverse,
+        }))
+    }
 
     fn arc_residual(&self, arc: usize) -> Result<u64, NetworkRefusal>
         ensures { result ≡ residual_answer (value self.now) arc };

@@ -1,0 +1,9 @@
+// An arc as it is told at a place of its tail.
+
+#[derive(Clone, Copy, PartialEq, Eq, Debug)]
+pub struct Arc {
+    pub code: usize,
+    // the node that it leads to, and the code of its reverse
+    pub head: usize,
+    pub reverse: usize,
+}
