@@ -11,6 +11,7 @@ use network::{Network, NetworkRefusal, Terminal};
 
 impl<'a> SealedBook<'a> {
     // The record of an entry.
+    #[inline(always)]
     fn entry(&self, node: usize) -> Result<Record, NetworkRefusal>
         ensures { result ≡ at_node (sealed_value self.now) node (front (sealed_table self.now) node) }
     {
@@ -19,6 +20,7 @@ impl<'a> SealedBook<'a> {
     }
 
     // The code of an arc's reverse, where the arc is there.
+    #[inline(always)]
     fn reverse(&self, arc: usize) -> Result<usize, NetworkRefusal>
         ensures { result ≡ at_arc (λ e. Ok e.reverse) ((sealed_value self.now).graph.ends arc) }
     {
@@ -45,15 +47,18 @@ impl<'a> Network for SealedBook<'a> {
 
     ghost keeping = { sealed_keeping };
 
+    #[inline(always)]
     fn node_count(&self) -> usize {
         self.held.entries
     }
 
+    #[inline(always)]
     fn terminal_residual(&self, terminal: Terminal, node: usize) -> Result<u64, NetworkRefusal> {
         let entry = self.entry(node)?;
         Ok(entry.amount(terminal))
     }
 
+    #[inline(always)]
     fn arc_at(&self, node: usize, place: usize) -> Result<Option<usize>, NetworkRefusal> {
         let entry = self.entry(node)?;
         if place >= usize::from(entry.arcs) {
@@ -63,6 +68,7 @@ impl<'a> Network for SealedBook<'a> {
         Ok(Some(usize::from(placed.code)))
     }
 
+    #[inline(always)]
     fn arc_ends(&self, arc: usize) -> Result<(usize, usize, usize), NetworkRefusal> {
         let reverse = self.reverse(arc)?;
         let tail = self.held.arc(reverse).head;
@@ -70,11 +76,13 @@ impl<'a> Network for SealedBook<'a> {
         Ok((usize::from(tail), usize::from(head), reverse))
     }
 
+    #[inline(always)]
     fn arc_residual(&self, arc: usize) -> Result<u64, NetworkRefusal> {
         self.reverse(arc)?;
         Ok(self.held.arc(arc).residual)
     }
 
+    #[inline(always)]
     fn take(&mut self, terminal: Terminal, node: usize, amount: u64) -> Result<(), NetworkRefusal> {
         let taken = self.entry(node)?.taken(terminal, amount);
         let left = taken.ok_or(NetworkRefusal::AboveResidual)?;
@@ -83,6 +91,7 @@ impl<'a> Network for SealedBook<'a> {
         Ok(())
     }
 
+    #[inline(always)]
     fn shift(&mut self, arc: usize, amount: u64) -> Result<(), NetworkRefusal> {
         let reverse = self.reverse(arc)?;
         let left = self.held.arc(arc).residual.checked_sub(amount);

@@ -29,6 +29,7 @@ impl<'a> OpenBook<'a> {
     }
 
     // How many records are unused.
+    #[inline(always)]
     fn unused(&self) -> usize
         ensures value { result ≡ unused (open_of self.now) }
         ensures rest { result ≡ length self.now.held.table.now - self.now.held.entries - 2 * self.now.held.needs }
@@ -37,18 +38,21 @@ impl<'a> OpenBook<'a> {
     }
 
     // Enters what an entry earns and costs, and answers its number.
+    #[inline(always)]
     pub fn enter(&mut self, earning: u32, cost: u32) -> Result<usize, EnterRefusal>
         ensures { Entered (open_of self.old) earning cost result (open_of self.new) }
     {
         EnterRefusal::check(earning, cost, self.entry_count(), self.unused())?;
         let held = &mut self.held;
         let number = held.entries;
-        held.table[number] = held.table[number].as_entry(earning, cost);
+        let table = &mut *held.table;
+        table[number].become_entry(earning, cost);
         held.entries += 1;
         Ok(number)
     }
 
     // Enters that an entry needs another.
+    #[inline(always)]
     pub fn need(&mut self, entry: usize, needed: usize) -> Result<(), NeedRefusal>
         ensures { Needed (open_of self.old) entry needed result (open_of self.new) }
     {
@@ -68,6 +72,7 @@ impl<'a> OpenBook<'a> {
 }
 
 // Writes need number `number` into a table: the entry's record tells it, both entries have an arc more, and the arcs stand from the end.
+#[inline(always)]
 fn write_need(table: &mut [Record], number: usize, entry: u16, needed: u16)
     requires there { entry < length table.old }
     requires needed_there { needed < length table.old }
@@ -80,8 +85,8 @@ fn write_need(table: &mut [Record], number: usize, entry: u16, needed: u16)
 {
     let (from, to) = (usize::from(entry), usize::from(needed));
     let arc = table.len() - 1 - 2 * number;
-    table[from] = table[from].needing(needed);
-    table[to] = table[to].with_arc_more();
-    table[arc] = table[arc].as_arc(needed, BINDING);
-    table[arc - 1] = table[arc - 1].as_arc(entry, 0);
+    table[from].note_need(needed);
+    table[to].count_arc();
+    table[arc].become_arc(needed, BINDING);
+    table[arc - 1].become_arc(entry, 0);
 }

@@ -26,6 +26,7 @@ impl<'a> Held<'a> {
     }
 
     // The records of the entries.
+    #[inline(always)]
     pub(crate) fn records(&self) -> &[Record]
         ensures { result.now ≡ take self.now.entries self.now.table.now }
     {
@@ -33,6 +34,7 @@ impl<'a> Held<'a> {
     }
 
     // The record of an arc, which is number `arc` from the table's end.
+    #[inline(always)]
     pub(crate) fn arc(&self, arc: usize) -> Record
         requires { arc < 2 * self.now.needs }
         ensures { result ≡ back self.now.table.now arc }
@@ -42,6 +44,7 @@ impl<'a> Held<'a> {
 }
 
 // The code of an arc's reverse.
+#[inline(always)]
 pub(crate) fn mate(arc: usize) -> usize
     requires { arc < 32768 }
     ensures { result ≡ mate arc }

@@ -27,59 +27,50 @@ pub struct Record {
 }
 
 impl Record {
-    // An entry without needs. The amounts stay two numbers: a struct of both would be made in `enter` only to be taken apart here.
-    pub(crate) fn as_entry(self, earning: u32, cost: u32) -> Record
-        ensures { result ≡ as_entry self earning cost }
+    // Makes it an entry without needs. The amounts stay two numbers: a struct of both would be made in `enter` only to be taken apart here.
+    #[inline(always)]
+    pub(crate) fn become_entry(&mut self, earning: u32, cost: u32)
+        ensures { self.new ≡ as_entry self.old earning cost }
     {
-        Record {
-            earning,
-            cost,
-            needed: [0; 4],
-            needs: 0,
-            arcs: 0,
-            ..self
-        }
+        self.earning = earning;
+        self.cost = cost;
+        self.needed = [0; 4];
+        self.needs = 0;
+        self.arcs = 0;
     }
 
-    // An arc that leads to an entry.
-    pub(crate) fn as_arc(self, head: u16, residual: u64) -> Record
-        ensures { result ≡ as_arc self head residual }
+    // Makes it an arc that leads to an entry.
+    #[inline(always)]
+    pub(crate) fn become_arc(&mut self, head: u16, residual: u64)
+        ensures { self.new ≡ as_arc self.old head residual }
     {
-        Record {
-            head,
-            residual,
-            ..self
-        }
+        self.head = head;
+        self.residual = residual;
     }
 
-    // The entry with one more that it needs, and the arc to it counted.
-    pub(crate) fn needing(self, needed: u16) -> Record
-        requires room { self.needs < 4 }
-        requires countable { self.arcs < 65535 }
-        ensures { result ≡ needing self needed }
+    // Notes one more entry that it needs, and counts the arc to it.
+    #[inline(always)]
+    pub(crate) fn note_need(&mut self, needed: u16)
+        requires room { self.old.needs < 4 }
+        requires countable { self.old.arcs < 65535 }
+        ensures { self.new ≡ needing self.old needed }
     {
-        let mut all = self.needed;
-        all[usize::from(self.needs)] = needed;
-        Record {
-            needed: all,
-            needs: self.needs + 1,
-            arcs: self.arcs + 1,
-            ..self
-        }
+        self.needed[usize::from(self.needs)] = needed;
+        self.needs += 1;
+        self.arcs += 1;
     }
 
-    // The entry with one more arc counted.
-    pub(crate) fn with_arc_more(self) -> Record
-        requires { self.arcs < 65535 }
-        ensures { result ≡ with_arc_more self }
+    // Counts one more arc.
+    #[inline(always)]
+    pub(crate) fn count_arc(&mut self)
+        requires { self.old.arcs < 65535 }
+        ensures { self.new ≡ with_arc_more self.old }
     {
-        Record {
-            arcs: self.arcs + 1,
-            ..self
-        }
+        self.arcs += 1;
     }
 
     // The entries that it needs, in the order of entering.
+    #[inline(always)]
     pub(crate) fn needed(&self) -> &[u16]
         requires { self.now.needs ≤ 4 }
         ensures { result.now ≡ take self.now.needs self.now.needed }
@@ -88,9 +79,9 @@ impl Record {
     }
 
     // Whether the entry needs another already.
-    pub(crate) fn has_need(self, needed: u16) -> bool
-        requires { self.needs ≤ 4 }
-        ensures { result ≡ among needed (take self.needs self.needed) }
+    pub(crate) fn has_need(&self, needed: u16) -> bool
+        requires { self.now.needs ≤ 4 }
+        ensures { result ≡ among needed (take self.now.needs self.now.needed) }
     {
         self.needed().contains(&needed)
     }

@@ -31,6 +31,7 @@ pub enum EnterRefusal {
 
 impl EnterRefusal {
     // Puts the questions to an entry, where the book has so many entries and its table so many unused records.
+    #[inline(always)]
     pub(crate) fn check(
         earning: u32,
         cost: u32,
@@ -84,6 +85,7 @@ pub enum NeedRefusal {
 
 impl NeedRefusal {
     // Puts the questions to a need, where the book's entries have these records and its table so many unused ones.
+    #[inline(always)]
     pub(crate) fn check(
         entry: usize,
         needed: usize,
@@ -98,7 +100,7 @@ impl NeedRefusal {
         if entry >= entries.len() || needed >= entries.len() {
             return Err(NeedRefusal::NoEntry);
         }
-        let record = entries[entry];
+        let record = &entries[entry];
         if entry == needed {
             Err(NeedRefusal::Itself)
         } else if record.has_need(needed as u16) {

@@ -47,6 +47,7 @@ pub trait Network {
         ensures { result ≡ ends_answer (value self.now) arc };
 
     // The arc at a place of the node, told whole. A network that can tell it by one look need not ask twice.
+    #[inline(always)]
     fn whole_arc_at(&self, node: usize, place: usize) -> Result<Option<Arc>, NetworkRefusal>
         ensures { result ≡ arc_answer (value self.now) node place }
     {
