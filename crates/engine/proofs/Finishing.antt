@@ -1,5 +1,5 @@
 -- Runs that are repeated until one finishes: each that pauses has gained something, so they end.
-use Rattle.std.proofs.Common.{◌≡◌, ℕ, ◌+◌, ◌^◌, ◌<◌, ◌≤◌, List, [], ◌∷◌, length, None, Ok, Err, Result, refl, ap, arith}
+use Rattle.std.proofs.Common.{◌≡◌, ℕ, ◌+◌, ◌^◌, ◌<◌, ◌≤◌, List, [], ◌∷◌, length, None, Ok, Err, Result, refl, ap, ◌∙◌, arith}
 use Rattle.std.specs.Result.{IsOk}
 use Rattle.std.proofs.lemmas.Bool.Decides.{nat_tests}
 use Rattle.network.specs.Nets.{Graph, Net, Lawful}
@@ -9,7 +9,7 @@ use Rattle.network.proofs.Carrying.{some_amount}
 use Rattle.search.specs.declared.refusal.RunRefusal.{RunRefusal}
 use Rattle.search.specs.declared.report.Outcome.TheVariants.{Finished, Paused}
 use Rattle.search.specs.declared.report.Report.{Report}
-use Rattle.search.specs.Runs.{Lent, MarksOf, refused, Run}
+use Rattle.search.specs.Runs.{Lent, MarksOf, Beyond, refused, Run}
 use Rattle.search.specs.Runs.Runs.{none, then}
 use Rattle.search.specs.Trails.{everything}
 use Rattle.engine.specs.Gains.{Gained}
@@ -43,6 +43,13 @@ paused_gains v w before after r (_, ps, ran) paused room =
 -- one run more
 pub gained_more : (v w x : Net) (g : ℕ) (before after : Lent) (r : Report) → Gained v w g → Run w before (Ok r) x after → Gained v x (g + r.log.gain)
 gained_more v w x g before after r (k, runs) ran = (k + r.log.paths, then runs before (Ok r) after ran)
+
+-- and the marks beyond those of the nodes stay
+pub still_beyond : (v w x : Net) (g : ℕ) (before after : Lent) (r : Report) (marks : List ℕ) → Gained v w g → Run w before (Ok r) x after → Beyond v.graph.nodes marks before.marks → Beyond v.graph.nodes marks after.marks
+still_beyond v w x g before after r marks led (_, ps, ran) (long, rest) =
+    let same = same_nodes v w g led in
+    let (wide, left) : Beyond v.graph.nodes before.marks after.marks = rw same at ran.marks in
+    (wide ∙ long, left ∙ rest)
 
 -- and every selection costs less
 pub costs_less : (w x : Net) (before after : Lent) (r : Report) → Lawful w → Run w before (Ok r) x after → cost x everything + r.log.gain ≡ cost w everything

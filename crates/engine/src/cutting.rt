@@ -3,12 +3,12 @@ ghost use Rattle.std.specs.Prelude.{◌≡◌, ℕ, ◌+◌, ◌<◌, ◌≤◌,
 ghost use Rattle.network.specs.declared.mark.Mark.{Mark as TheMark};
 ghost use Rattle.network.specs.Marks.{mark_byte};
 ghost use Rattle.network.specs.Cuts.{CheapestCost, AllMarked};
-ghost use Rattle.search.specs.Runs.{MarksOf};
-ghost use Rattle.engine.specs.Gains.{Gained, RunsLed};
+ghost use Rattle.search.specs.Runs.{MarksOf, Beyond};
+ghost use Rattle.engine.specs.Gains.{Gained, RunsLed, CutInto};
 
 use super::running::Runnable;
 use network::Mark;
-use search::Outcome;
+use search::{Outcome, RunRefusal};
 use std::alloc::{AllocError, Global};
 use trees::Work;
 
@@ -19,18 +19,35 @@ pub struct Cut {
     pub marks: Vec<Mark>,
 }
 
-// The cheapest selections of a network. Runs are repeated until one finishes, each with a trail of so many words, or of as many as one
-// path may need where that is more. A run that pauses begins its trees afresh, so a longer trail makes for fewer runs.
+// What the cheapest selections of a network cost; what they say of each node is written to bytes that the caller lends. Runs are
+// repeated until one finishes, each with a trail of so many words, or of as many as one path may need where that is more. A run that
+// pauses begins its trees afresh, so a longer trail makes for fewer runs.
+pub fn cut_into<N: Runnable>(
+    heap: Global,
+    net: &mut N,
+    words: usize,
+    marks: &mut [u8],
+) -> Result<Result<u64, RunRefusal>, AllocError>
+    ensures cut { CutInto (N.value net.old) (N.value net.new) marks.old marks.new result }
+    ensures kept { N.keeps net.old net.new }
+{
+    let nodes = net.node_count();
+    if marks.len() < nodes {
+        return Ok(Err(RunRefusal::FewMarks));
+    }
+    let mut work = vec![in heap; Work::blank(); nodes]?;
+    let mut trail = vec![in heap; 0; words.max(nodes + 2)]?;
+    Ok(Ok(finish(net, &mut work, &mut trail, marks)))
+}
+
+// The cheapest selections of a network, found by runs as `cut_into` makes them.
 pub fn cheapest_cut<N: Runnable>(heap: Global, net: &mut N, words: usize) -> Result<Cut, AllocError>
     ensures cut { IfOk result (λ cut. CheapestCost (N.value net.old) cut.cost × AllMarked (N.value net.old) (vec_items cut.marks)) }
     ensures runs { RunsLed (N.value net.old) (N.value net.new) result }
     ensures kept { N.keeps net.old net.new }
 {
-    let nodes = net.node_count();
-    let mut work = vec![in heap; Work::blank(); nodes]?;
-    let mut trail = vec![in heap; 0; words.max(nodes + 2)]?;
-    let mut bytes = vec![in heap; 0; nodes]?;
-    let cost = finish(net, &mut work, &mut trail, &mut bytes);
+    let mut bytes = vec![in heap; 0; net.node_count()]?;
+    let cost = cut_into(heap, net, words, &mut bytes)?.unwrap();
     let marks = read_marks(heap, &bytes)?;
     Ok(Cut { cost, marks })
 }
@@ -43,6 +60,7 @@ fn finish<N: Runnable>(net: &mut N, work: &mut [Work], trail: &mut [u64], marks:
     ensures least { CheapestCost (N.value net.old) result }
     ensures runs { Gained (N.value net.old) (N.value net.new) result }
     ensures marks { MarksOf (N.value net.old) (N.value net.old).graph.nodes marks.new }
+    ensures beyond { Beyond (N.value net.old).graph.nodes marks.old marks.new }
     ensures kept { N.keeps net.old net.new }
 {
     let mut gain = 0;

@@ -12,7 +12,7 @@ mod telling;
 mod tiles;
 
 pub use answer::Plan;
-pub use cutting::{Cut, cheapest_cut};
+pub use cutting::{Cut, cheapest_cut, cut_into};
 pub use page::Listing;
 pub use planning::{MOST_BYTES, plan};
 pub use refusal::PlanRefusal;

@@ -1,12 +1,12 @@
-use Rattle.std.proofs.Common.{◌≡◌, ◌+◌, ◌≤◌, length, arith, rules}
+use Rattle.std.proofs.Common.{◌≡◌, ◌+◌, ◌≤◌, length, refl, arith, rules}
 use Rattle.search.specs.declared.report.Outcome.TheVariants.{Finished, Paused}
 use Rattle.search.specs.Runs.Runs.{none}
 use Rattle.search.specs.Runs.{Lent}
-use Rattle.engine.proofs.Finishing.{accepted, same_nodes, gained_more, gains_small, costs_less, paused_gains, concluded}
+use Rattle.engine.proofs.Finishing.{accepted, same_nodes, gained_more, gains_small, still_beyond, costs_less, paused_gains, concluded}
 use Rattle.engine.proofs.cutting.finish.Goals as goal
 
 pub loop-gain-init : goal.loop-gain-init
-loop-gain-init g c = ((0, none (g.N.Network.lawful c.args.net.now)), g.N.Network.keeping.same _)
+loop-gain-init g c = ((0, none (g.N.Network.lawful c.args.net.now)), g.N.Network.keeping.same _, (refl, refl))
 
 pub unwrap-report-requires : goal.unwrap-report-requires
 unwrap-report-requires g c =
@@ -45,9 +45,14 @@ loop-gain-smaller g c =
 pub loop-gain-preserved : goal.loop-gain-preserved
 loop-gain-preserved g c =
     let ran = rw c.unwrap-report.ensures at c.run.ensures.ran in
-    (gained_more _ _ _ _ _ _ c.unwrap-report.result c.loop-gain.invariant.0 ran, g.N.Network.keeping.then _ _ _ c.loop-gain.invariant.1 c.run.ensures.kept)
+    (gained_more _ _ _ _ _ _ c.unwrap-report.result c.loop-gain.invariant.0 ran, g.N.Network.keeping.then _ _ _ c.loop-gain.invariant.1 c.run.ensures.kept, still_beyond _ _ _ _ _ _ c.unwrap-report.result _ c.loop-gain.invariant.0 ran c.loop-gain.invariant.2)
 
 pub returns-then-eq-clause-runs : goal.returns-then-eq-clause-runs
 returns-then-eq-clause-runs g c =
     let ran = rw c.unwrap-report.ensures at c.run.ensures.ran in
     gained_more _ _ _ _ _ _ c.unwrap-report.result c.loop-gain.invariant.0 ran
+
+pub returns-then-eq-clause-beyond : goal.returns-then-eq-clause-beyond
+returns-then-eq-clause-beyond g c =
+    let ran = rw c.unwrap-report.ensures at c.run.ensures.ran in
+    still_beyond _ _ _ _ _ _ c.unwrap-report.result _ c.loop-gain.invariant.0 ran c.loop-gain.invariant.2
