@@ -4,3 +4,4 @@ pub mod Texts
 pub mod Rights
 pub mod Histories
 pub mod Finishing
+pub mod Lendings

@@ -17,10 +17,10 @@ use Rattle.filing.proofs.Needing.{length_needs}
 use Rattle.filing.specs.declared.refusal.LoadRefusal.{LoadRefusal}
 use Rattle.filing.specs.declared.refusal.LoadRefusal.TheVariants.{HasEntries, Sheet, ShortTable}
 use Rattle.filing.specs.Books.{amounts_of, book_of}
-use Rattle.filing.specs.Loads.{Loaded}
+use Rattle.filing.specs.Loads.{Loaded, AllLoaded}
 use Rattle.engine.specs.declared.refusal.PlanRefusal.{PlanRefusal}
 use Rattle.engine.specs.declared.refusal.PlanRefusal.TheVariants.{TooLong, Load}
-use Rattle.engine.specs.Answers.{Answer, GreatestNet, Right}
+use Rattle.engine.specs.Answers.{Answer, GreatestNet, Worth, Right}
 use Rattle.engine.specs.Plans.{Planned, ThePlan}
 use Rattle.engine.proofs.Rights.{one_right, greatest_net}
 
@@ -55,17 +55,26 @@ the_refusal bs s t ShortTable short new size (_, over, _) =
     let more : 2048 < used (book_of over.entries) = omega (arith, over.short) in
     record { answers = (short, (over.entries, over.sheet, more)); only = short_table bs over.entries short over.sheet more }
 
+-- what the cheapest selections of v tell of a book that was loaded, whose network it is
+pub worth_of : (bs : List ℕ) (s t : Open) (v : Net) (c : Counts) (least net : ℕ) (loaded : AllLoaded s bs c t) → v ≡ network_of t.book → BestPlans t.book → CheapestCost v least → least + net ≡ total_earnings t.book → Worth (book_of loaded.entries) c least net
+worth_of bs s t v c least net loaded is best cheapest rest =
+    let es = loaded.entries in
+    let left : least + net ≡ total_earnings (book_of es) = rw loaded.book at rest in
+    record {
+      entries = ap (λ (k : Counts). k.entries) loaded.are ∙ sym (length-map es amounts_of);
+      needs = ap (λ (k : Counts). k.needs) loaded.are ∙ sym (length_needs 0 es);
+      least = subst (λ w. CheapestCost w least) (is ∙ ap network_of loaded.book) cheapest;
+      rest = left;
+      net = subst (λ b. GreatestNet b net) loaded.book (greatest_net t.book least net best (subst (λ w. CheapestCost w least) is cheapest) rest);
+    }
+
 -- the answer to one that is: what the cheapest selections of v tell, the network of its book
 pub the_plan : (bs : List ℕ) (s t : Open) (v : Net) (c : Counts) (least net : ℕ) (marks : List Mark) → length bs ≤ 8192 → length s.table.now ≡ 2048 → Loaded s bs (Ok c) t → v ≡ network_of t.book → Lawful (network_of t.book) → BestPlans t.book → CheapestCost v least → least + net ≡ total_earnings t.book → AllMarked v marks → ThePlan bs (Ok (record { counts = c; least = least; net = net; marks = marks }))
 the_plan bs s t v c least net marks short size (_, loaded) is lawful best cheapest rest marked =
     let es = loaded.entries in
     let room : used (book_of es) ≤ 2048 = omega (arith, loaded.room) in
     let right : Right (book_of es) (record { counts = c; least = least; net = net; marks = marks }) = record {
-      entries = ap (λ (k : Counts). k.entries) loaded.are ∙ sym (length-map es amounts_of);
-      needs = ap (λ (k : Counts). k.needs) loaded.are ∙ sym (length_needs 0 es);
-      least = subst (λ w. CheapestCost w least) (is ∙ ap network_of loaded.book) cheapest;
-      rest = rw loaded.book at rest;
-      net = subst (λ b. GreatestNet b net) loaded.book (greatest_net t.book least net best (subst (λ w. CheapestCost w least) is cheapest) rest);
+      worth = worth_of bs s t v c least net loaded is best cheapest rest;
       marks = subst (λ w. AllMarked w marks) (is ∙ ap network_of loaded.book) marked;
     } in
     record {

@@ -36,11 +36,11 @@ greatest_net b least net best (X, cheapest, is) rest = record {
 
 pub one_right : (b : Book) (a c : Answer) → Lawful (network_of b) → Right b a → Right b c → a ≡ c
 one_right b a c l first second =
-    let least = one_cost (network_of b) a.least c.least first.least second.least in
-    let net : a.net ≡ c.net = omega (arith, first.rest, second.rest) in
+    let least = one_cost (network_of b) a.least c.least first.worth.least second.worth.least in
+    let net : a.net ≡ c.net = omega (arith, first.worth.rest, second.worth.rest) in
     let marks = one_list_of_marks (network_of b) a.marks c.marks l first.marks second.marks in
-    let entries = first.entries ∙ sym second.entries in
-    let needs = first.needs ∙ sym second.needs in
+    let entries = first.worth.entries ∙ sym second.worth.entries in
+    let needs = first.worth.needs ∙ sym second.worth.needs in
     λ i. record { counts = record { entries = entries i; needs = needs i }; least = least i; net = net i; marks = marks i }
 
 -- a byte that stands for a mark is read as one

@@ -18,11 +18,15 @@ pub record GreatestNet (b : Book) (k : ℕ) : Type 0 where
   pub plan : (X : Selection) × Plan b X × (earned b X ≡ paid b X + k)
   pub greatest : (X : Selection) → Plan b X → earned b X ≤ paid b X + k
 
+-- a book of these counts: its cheapest selections cost k, and m is the net of its best plans
+pub record Worth (b : Book) (c : Counts) (k m : ℕ) : Type 0 where
+  pub entries : c.entries ≡ length b.entries
+  pub needs : c.needs ≡ length b.needs
+  pub least : CheapestCost (network_of b) k
+  -- what is left of the total earnings
+  pub rest : k + m ≡ total_earnings b
+  pub net : GreatestNet b m
+
 pub record Right (b : Book) (a : Answer) : Type 0 where
-  pub entries : a.counts.entries ≡ length b.entries
-  pub needs : a.counts.needs ≡ length b.needs
-  -- what the cheapest selections cost, and what is left of the total earnings
-  pub least : CheapestCost (network_of b) a.least
-  pub rest : a.least + a.net ≡ total_earnings b
-  pub net : GreatestNet b a.net
+  pub worth : Worth b a.counts a.least a.net
   pub marks : AllMarked (network_of b) a.marks

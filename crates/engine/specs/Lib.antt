@@ -6,4 +6,5 @@ pub mod Refusals
 pub mod Plans
 pub mod Listings
 pub mod Histories
+pub mod Lendings
 pub mod Gains

@@ -4,6 +4,7 @@
 mod answer;
 mod books;
 mod cutting;
+mod lending;
 mod page;
 mod planning;
 mod refusal;
@@ -13,8 +14,9 @@ mod tiles;
 
 pub use answer::Plan;
 pub use cutting::{Cut, cheapest_cut, cut_into};
+pub use lending::{Best, plan_into, split_into};
 pub use page::Listing;
 pub use planning::{MOST_BYTES, plan};
-pub use refusal::PlanRefusal;
+pub use refusal::{LentRefusal, PlanRefusal};
 pub use running::Runnable;
 pub use telling::listing;
