@@ -1,0 +1,7 @@
+// What programs in C call: the best plans of a sheet, and the split of a tile. The header is cheapest.h.
+#![tactic(auto)]
+
+mod answer;
+mod calls;
+
+pub use answer::{PlanAnswer, SplitAnswer};
