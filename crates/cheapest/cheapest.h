@@ -1,5 +1,7 @@
-/* The cheapest cuts of order sheets and page tiles, for programs in C. Link libcheapest.a. Every call is proved; what each answers and
-   leaves is told in full in docs/RULES.md. The functions keep nothing between calls, and take memory only through malloc. */
+/* The cheapest cuts of order sheets and page tiles, for programs in C. Link the archive that tools/staticlib makes. Every call is proved;
+   what each answers and leaves is told in full in docs/RULES.md. The functions keep nothing between calls, and take memory only through
+   malloc. The caller sees to it that each pointer leads to as many bytes as is said, also where that is 0, and that marks overlap nothing
+   else. What an answer does not tell is 0. */
 #ifndef CHEAPEST_H
 #define CHEAPEST_H
 
@@ -38,9 +40,10 @@ typedef struct {
    the others; a refused call leaves all. Refused with 11 to 18 as a load is, and with 26 where there are fewer marks than entries. */
 cheapest_plan_answer cheapest_plan(const uint8_t *sheet, size_t sheet_length, uint8_t *marks, size_t marks_length);
 
-/* Splits a tile into lines (in) and tone (out) for the least energy. The costs are four bytes a pixel, row by row: as line, as tone,
-   the penalty to the right, the penalty to below. Writes what the best splits say of each pixel to the first bytes of marks. Refused
-   with 21, 22 and 24 as a lay is, and with 26 where there are fewer marks than pixels. */
+/* Finds the least energy of a tile, of lines (in) and tone (out). The costs are four bytes a pixel, row by row: as line, as tone, the
+   penalty to the right, the penalty to below. Writes what the selections of that energy say of each pixel to the first bytes of marks,
+   one byte a pixel, and leaves the others; a refused call leaves all. Refused with 21, 22 and 24 as a lay is, and with 26 where there
+   are fewer marks than pixels. */
 cheapest_split_answer cheapest_split(size_t width, size_t height, const uint8_t *costs, size_t costs_length, uint8_t *marks,
                                      size_t marks_length);
 

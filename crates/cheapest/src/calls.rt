@@ -14,8 +14,8 @@ pub extern "C" fn cheapest_plan(heap: Global, sheet: &[u8], marks: &mut [u8]) ->
     PlanAnswer::of(plan_into(heap, sheet, marks))
 }
 
-// Splits the tile of these costs, in rows of `width` pixels, for the least energy. What the best splits say of each pixel is written to
-// the marks.
+// Finds the least energy of the tile of these costs, in rows of `width` pixels. What the selections of that energy say of each pixel is
+// written to the marks.
 #[unsafe(no_mangle)]
 pub extern "C" fn cheapest_split(
     heap: Global,

@@ -1,4 +1,4 @@
-// What programs in C call: the best plans of a sheet, and the split of a tile. The header is cheapest.h.
+// What programs in C call: the best plans of a sheet, and the least energy of a tile. The header is cheapest.h.
 #![tactic(auto)]
 
 mod answer;

@@ -17,7 +17,7 @@ abbrev pub RunsLed : Net → Net → Result Cut AllocError → Type 0
 RunsLed v w r = (g : ℕ) × Gained v w g × IfOk r (λ cut. cut.cost ≡ g)
 
 -- what is answered and left where the network v is cut, and the marks of its nodes are written to bytes: where memory ran out, and
--- where there are fewer bytes than nodes, all is as it was
+-- where there are fewer bytes than nodes, value and bytes are as they were
 abbrev pub CutInto : Net → Net → List ℕ → List ℕ → Result (Result ℕ RunRefusal) AllocError → Type 0
 CutInto v w before after (Err _) = (w ≡ v) × (after ≡ before)
 CutInto v w before after (Ok (Err x)) = (x ≡ FewMarks) × (length before < v.graph.nodes) × (w ≡ v) × (after ≡ before)

@@ -23,8 +23,8 @@ NotASheet bs (Sheet x) = Answers bs (Err x)
 NotASheet bs HasEntries = ⊥
 NotASheet bs ShortTable = ⊥
 
--- a sheet is planned: its own questions are put, and then whether there is a byte for each entry. What is refused, for want of memory
--- too, leaves the bytes; and so are those past the entries'.
+-- the best plans of a sheet: its own questions are put, and then whether there is a byte for each entry. A refused call, for want of
+-- memory too, leaves the bytes, and every call leaves those past the entries'.
 abbrev pub PlanInto : List ℕ → List ℕ → List ℕ → Result (Result Best LentRefusal) AllocError → Type 0
 PlanInto bs before after (Err _) = after ≡ before
 PlanInto bs before after (Ok (Err (Load x))) = NotASheet bs x × (after ≡ before)
@@ -32,15 +32,15 @@ PlanInto bs before after (Ok (Err (Lay _))) = ⊥
 PlanInto bs before after (Ok (Err (Run x))) = (x ≡ FewMarks) × ((es : List Entry) × SheetOf bs es × (length before < length es)) × (after ≡ before)
 PlanInto bs before after (Ok (Ok r)) = (es : List Entry) × SheetOf bs es × Worth (book_of es) r.counts r.least r.net × MarksOf (network_of (book_of es)) (length es) after × Beyond (length es) before after
 
--- e is the energy of a split of the tile, and none has less
-abbrev pub LeastEnergy : ℕ → ℕ → List ℕ → ℕ → Type 0
-LeastEnergy w h bs e = (X : Selection) × ((Y : Selection) → energy w h bs X ≤ energy w h bs Y) × (energy w h bs X ≡ e)
+-- e is the energy of a selection of the tile's pixels, and none has less
+abbrev pub LeastEnergyIs : ℕ → ℕ → List ℕ → ℕ → Type 0
+LeastEnergyIs w h bs e = (X : Selection) × ((Y : Selection) → energy w h bs X ≤ energy w h bs Y) × (energy w h bs X ≡ e)
 
--- a tile is split: its questions are put over a table of 4,096 records, and then whether there is a byte for each pixel. What is refused,
--- for want of memory too, leaves the bytes; and so are those past the pixels'.
+-- the cheapest selections of a tile: its questions are put over a table of 4,096 records, and then whether there is a byte for each
+-- pixel. A refused call, for want of memory too, leaves the bytes, and every call leaves those past the pixels'.
 abbrev pub SplitInto : ℕ → ℕ → List ℕ → List ℕ → List ℕ → Result (Result ℕ LentRefusal) AllocError → Type 0
 SplitInto w h bs before after (Err _) = after ≡ before
 SplitInto w h bs before after (Ok (Err (Load _))) = ⊥
 SplitInto w h bs before after (Ok (Err (Lay x))) = (lay_refusal w h bs 4096 ≡ Some x) × (after ≡ before)
 SplitInto w h bs before after (Ok (Err (Run x))) = (lay_refusal w h bs 4096 ≡ None) × (x ≡ FewMarks) × (length before < w * h) × (after ≡ before)
-SplitInto w h bs before after (Ok (Ok e)) = (lay_refusal w h bs 4096 ≡ None) × LeastEnergy w h bs e × MarksOf (tile_network w h bs) (w * h) after × Beyond (w * h) before after
+SplitInto w h bs before after (Ok (Ok e)) = (lay_refusal w h bs 4096 ≡ None) × LeastEnergyIs w h bs e × MarksOf (tile_network w h bs) (w * h) after × Beyond (w * h) before after

@@ -1,5 +1,5 @@
 // The cheapest selections of a network, by runs that are repeated until one finishes.
-ghost use Rattle.std.specs.Prelude.{◌≡◌, ℕ, ◌+◌, ◌<◌, ◌≤◌, IfOk, length, map, slice_index, vec_items};
+ghost use Rattle.std.specs.Prelude.{◌≡◌, ℕ, ◌+◌, ◌<◌, ◌≤◌, IfOk, OnErr, length, map, slice_index, vec_items};
 ghost use Rattle.network.specs.declared.mark.Mark.{Mark as TheMark};
 ghost use Rattle.network.specs.Marks.{mark_byte};
 ghost use Rattle.network.specs.Cuts.{CheapestCost, AllMarked};
@@ -30,6 +30,8 @@ pub fn cut_into<N: Runnable>(
 ) -> Result<Result<u64, RunRefusal>, AllocError>
     ensures cut { CutInto (N.value net.old) (N.value net.new) marks.old marks.new result }
     ensures kept { N.keeps net.old net.new }
+    ensures unmade { OnErr result (net.new ≡ net.old) }
+    ensures refused { IfOk result (λ answer. OnErr answer (net.new ≡ net.old)) }
 {
     let nodes = net.node_count();
     if marks.len() < nodes {

@@ -50,7 +50,8 @@ pub fn plan_into(
     }
 }
 
-// The least energy of the tile of these costs, in rows of `width` pixels. What its best splits say of each pixel is written to the marks.
+// The least energy of the tile of these costs, in rows of `width` pixels. What the selections of that energy say of each pixel is written
+// to the marks.
 pub fn split_into(
     heap: Global,
     width: usize,

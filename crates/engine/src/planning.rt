@@ -18,7 +18,7 @@ const RECORDS: usize = 2_048;
 // How many words the trail of each run has.
 const TRAIL_WORDS: usize = 4_096;
 
-// The answer to an input. One that is longer than a sheet may be is refused unread.
+// The answer to an input. One of too many bytes is refused unread.
 pub fn plan(heap: Global, input: &[u8]) -> Result<Result<Plan, PlanRefusal>, AllocError>
     ensures { IfOk result (λ answer. ThePlan input.now (result_of answer)) }
 {

@@ -10,7 +10,7 @@ use tile::LayRefusal;
 
 #[derive(Clone, Copy, PartialEq, Eq, Debug)]
 pub enum PlanRefusal {
-    // there are more bytes than a sheet may have
+    // there are more bytes than `plan` takes
     TooLong,
     // the sheet is not loaded
     Load(LoadRefusal),

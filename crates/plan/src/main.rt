@@ -8,7 +8,7 @@ use std::io::Read;
 fn main(rt: HostRuntime) -> anyhow::Result<()> {
     let heap = rt.alloc();
     let mut input = Vec::new(heap);
-    // one byte more than a sheet may have, so that a longer one is seen to be too long
+    // one byte more than is taken, so that a longer one is seen to be too long
     let limit = engine::MOST_BYTES as u64 + 1;
     rt.stdin().take(limit).read_to_end(&mut input)?;
     let listing = engine::listing(heap, &input)?;
