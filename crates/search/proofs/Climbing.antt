@@ -2,26 +2,24 @@
 use Rattle.std.proofs.Common.{◌≡◌, ℕ, ◌+◌, ◌<◌, List, [], ◌∷◌, ◌++◌, length, set, Some, sym, refl, ap, ◌∙◌, subst, arith}
 use Rattle.std.proofs.lemmas.List.{length-append, length_push}
 use Rattle.network.specs.declared.terminal.Terminal.{Terminal}
-use Rattle.network.specs.Nets.{Net, ends_of}
+use Rattle.network.specs.Nets.{Net}
 use Rattle.network.specs.Paths.{Smallest}
-use Rattle.network.specs.Sides.{near}
-use Rattle.network.proofs.Laws.{ends_are}
 use Rattle.trees.specs.declared.work.Parent.TheVariants.{Along}
 use Rattle.trees.specs.Forests.{Forest}
 use Rattle.trees.specs.Trees.{Climb}
 use Rattle.trees.specs.Trees.Climb.{here}
 use Rattle.trees.specs.Climbs.{Settled, ClimbsFit, Written, residuals, Passable}
-use Rattle.trees.proofs.Climbs.{climb_push, branch_there}
+use Rattle.trees.proofs.Climbs.{climb_push}
 use Rattle.trees.proofs.Writing.{written_push}
 use Rattle.search.specs.declared.tracing.Hop.{Hop}
 use Rattle.search.specs.declared.tracing.Traced.{Traced}
 use Rattle.search.specs.declared.tracing.Way.{Way}
 use Rattle.search.specs.Tracings.{Hops, PathWritten}
 
-pub hung_from : {v : Net} {f : Forest} {t : Terminal} {u above : ℕ} (a : ℕ) → Settled v f → u < v.graph.nodes → f.tree u ≡ Some t → f.parent u ≡ Along a → above ≡ near t (ends_of v.graph a) → Hops v.graph f.parent t u (Some (record { arc = a; node = above }))
-hung_from {v = v} {t = t} {u = u} a s there in_tree hung is =
-    let (e, at) = branch_there (s.trees.parents t u a there in_tree hung) in
-    (hung, e, at, sym (is ∙ ap (near t) (ends_are v.graph a e at)))
+pub hung_from : {v : Net} {f : Forest} {t : Terminal} {u above : ℕ} (a : ℕ) → Settled v f → u < v.graph.nodes → f.tree u ≡ Some t → f.parent u ≡ Along a above → Hops v.graph f.parent t u (Some (record { arc = a; node = above }))
+hung_from {t = t} {u = u} {above = above} a s there in_tree hung =
+    let (e, b, from) = s.trees.parents t u a above there in_tree hung in
+    (hung, e, b.ends, from)
 
 -- the climb so far, its arcs written over the beginning of a list
 pub record Rising (v : Net) (f : Forest) (t : Terminal) (u : ℕ) (before after : List ℕ) (steps at : ℕ) : Type 0 where
@@ -36,7 +34,7 @@ rising_none v f t u before = record { arcs = []; climb = here; count = refl; wri
 -- the climb with one step more
 next_climb : (v : Net) (f : Forest) (t : Terminal) (u at : ℕ) (arcs : List ℕ) (h : Hop) → Climb v.graph f.parent t u at arcs → Hops v.graph f.parent t at (Some h) → Climb v.graph f.parent t u h.node (arcs ++ h.arc ∷ [])
 next_climb v f t u at arcs h c (hung, e, is, above) =
-    rw (← above) (climb_push v.graph f.parent t u at arcs h.arc e c hung is)
+    rw (← above) (climb_push v.graph f.parent t u at arcs h.arc e c (rw above hung) is)
 
 pub rising_fits : {v : Net} {f : Forest} {t : Terminal} {u : ℕ} {before after : List ℕ} {steps at : ℕ} (h : Hop) → ClimbsFit v.graph f.parent t u (length before) → Hops v.graph f.parent t at (Some h) → Rising v f t u before after steps at → steps < length before
 rising_fits {v = v} {f = f} {t = t} {u = u} {at = at} h fit hop r =

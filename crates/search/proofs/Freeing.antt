@@ -28,7 +28,7 @@ use Rattle.search.proofs.Neighbours.{through_more}
 
 -- nobody in the tree of t hangs from the arc, and its far end waits if something can be sent back
 abbrev pub Loose : Net → Forest → Terminal → ℕ → Ends → Type 0
-Loose v f t a e = f.tree (far t e) ≡ Some t → (0 < v.residual e.reverse → f.queued Waiting (far t e) ≡ true) × (f.parent (far t e) ≡ Along a → ⊥)
+Loose v f t a e = f.tree (far t e) ≡ Some t → (0 < v.residual e.reverse → f.queued Waiting (far t e) ≡ true) × ((w : ℕ) → f.parent (far t e) ≡ Along a w → ⊥)
 
 pub record Freeing (v : Net) (t : Terminal) (u k : ℕ) (before f : Forest) : Type 0 where
   pub trees : TreesBut v f Orphans u
@@ -51,20 +51,20 @@ freeing_woken v t u k w before f h =
     }
 
 -- a child loses its parent
-freeing_orphaned : (v : Net) (t : Terminal) (u k c a : ℕ) (e : Ends) (before f : Forest) → Lawful v → Freeing v t u k before f → f.parent c ≡ Along a → f.tree c ≡ Some t → v.graph.ends a ≡ Some e → near t e ≡ u → Freeing v t u k before (orphaned f c)
-freeing_orphaned v t u k c a e before f l h hangs child is from =
+freeing_orphaned : (v : Net) (t : Terminal) (u k c a w : ℕ) (e : Ends) (before f : Forest) → Lawful v → Freeing v t u k before f → f.parent c ≡ Along a w → f.tree c ≡ Some t → v.graph.ends a ≡ Some e → near t e ≡ u → Freeing v t u k before (orphaned f c)
+freeing_orphaned v t u k c a w e before f l h hangs child is from =
     let loose : (y : Terminal) → f.tree c ≡ Some y → Anchored v.graph f.parent y c → ⊥ = λ y in_tree anchored.
     let side : y ≡ t = cc in
-    orphan_loose v.graph f.parent t u h.alone (rw (← from) (anchored_above v.graph f.parent t c a e hangs is (rw side at anchored))) in
+    orphan_loose v.graph f.parent t u h.alone (rw (← from) (anchored_above v.graph f.parent t c a w e hangs is (rw side at anchored))) in
     record {
-      trees = requeue_trees v (orphaned (with_queued f Orphans u true) c) _ (λ _ is. is) (at_twice (f.queued Orphans) u c) (orphan_trees v (with_queued f Orphans u true) c a h.trees hangs);
+      trees = requeue_trees v (orphaned (with_queued f Orphans u true) c) _ (λ _ is. is) (at_twice (f.queued Orphans) u c) (orphan_trees v (with_queued f Orphans u true) c a w h.trees hangs);
       same = h.same;
       mine = h.mine;
       alone = grind (arith, nat_tests, h.alone);
       survey = λ stage s. survey_orphaned v f stage c l (h.survey stage s) loose;
       seen = λ j b d below at_b out place in_tree.
           let (waits, old) = h.seen j b d below at_b out place in_tree in
-          (waits, λ now. old (cut_along f.parent c (far t d) b now));
+          (waits, λ w now. old w (cut_along f.parent c (far t d) b w now));
     }
 
 -- f where a neighbour waits, if something can be sent from it
@@ -74,7 +74,7 @@ freeing_wakes v t u k h before f s = cond_both (ltb 0 (v.residual h.inward)) (wi
 -- and is an orphan, if it hung from the node
 freeing_disowns : (v : Net) (t : Terminal) (u k : ℕ) (h : Neighbour) (before f : Forest) → Lawful v → Freeing v t u k before f → Beside v.graph t u k h → f.tree h.node ≡ Some t → Freeing v t u k before (disowned f h.node h.outward)
 freeing_disowns v t u k h before f l s b child = each_way (Freeing v t u k before) f h.node h.outward
-    (λ hangs. freeing_orphaned v t u k h.node h.outward b.ends before f l s hangs child b.out b.from)
+    (λ w hangs. freeing_orphaned v t u k h.node h.outward w b.ends before f l s hangs child b.out b.from)
     (λ _. s)
 
 woken_tree : (v : Net) (h : Neighbour) (f : Forest) → (woken v h f).tree ≡ f.tree
@@ -110,10 +110,10 @@ freeing_after l s b is = rw is (freeing_more _ _ _ _ _ _ _ l s b)
 pub freeing_ends : {v : Net} {t : Terminal} {u k : ℕ} {before f : Forest} → Lawful v → Freeing v t u k before f → slice_get (v.graph.arcs u) k ≡ None → Trees v (with_tree f u None) × SurveyKept v before (with_tree f u None)
 freeing_ends {v = v} {t = t} {u = u} {k = k} {f = f} l s past =
     let all = through_all v.graph t u k (Loose v f t) l.graph past s.seen in
-    let childless : (y : Terminal) (x b : ℕ) (d : Ends) → Branch v f y x b d → f.tree x ≡ Some y → f.parent x ≡ Along b → near y d ≡ u → ⊥ = λ y x b d br in_tree hangs from.
+    let childless : (y : Terminal) (x b : ℕ) (d : Ends) → Branch v f y x b d → f.tree x ≡ Some y → f.parent x ≡ Along b (near y d) → near y d ≡ u → ⊥ = λ y x b d br in_tree hangs from.
     let side : y ≡ t = cc in
     let (_, loose) = all b d br.ends (rw side at from) (cc) in
-    loose (cc) in
+    loose (near y d) (cc) in
     let woken_up : (b : ℕ) (d : Ends) → Branch v f t u b d → f.queued Waiting (near t d) ≡ true = λ b d br.
     let e = reversed b d in
     let out = near_reversed t b d ∙ br.child in

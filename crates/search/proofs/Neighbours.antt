@@ -1,11 +1,13 @@
 -- A node's neighbours, one place after another.
-use Rattle.std.proofs.Common.{◌≡◌, ℕ, ◌+◌, ◌<◌, Some, None, Ok, sym, refl, ap, ◌∙◌, arith}
+use Rattle.std.proofs.Common.{◌≡◌, ℕ, ◌+◌, ◌^◌, ◌<◌, Some, None, Ok, sym, refl, ap, ◌∙◌, arith}
 use Rattle.std.specs.List.{slice_get}
 use Rattle.network.specs.declared.terminal.Terminal.{Terminal}
 use Rattle.network.specs.declared.terminal.Terminal.TheVariants.{Source, Sink}
 use Rattle.network.specs.Nets.{Ends, Net, Lawful, reversed, Graph, LawfulGraph}
+use Rattle.network.specs.Sides.{near}
 use Rattle.network.specs.Answers.{ends_answer}
 use Rattle.network.proofs.Lists.{nth_inside}
+use Rattle.network.proofs.Laws.{near_there}
 use Rattle.trees.proofs.Places.{standing, Through, through_next}
 use Rattle.std.specs.Iterator.{MakesProgress}
 use Rattle.search.specs.declared.reading.Neighbour.{Neighbour}
@@ -31,6 +33,10 @@ beside v t u k a tail head reverse l there at answer =
 placed_standing : (g : Graph) (t : Terminal) (u k : ℕ) (h : Neighbour) (b : Beside g t u k h) → placed_one t h ≡ standing t h.outward b.ends
 placed_standing g Source u k h b = refl
 placed_standing g Sink u k h b = sym b.back
+
+-- a record holds the number of any arc, and of its ends
+pub few_numbers : (g : Graph) (t : Terminal) (a : ℕ) (e : Ends) → LawfulGraph g → g.ends a ≡ Some e → (a < 2 ^ 16) × (near t e < 2 ^ 16)
+few_numbers g t a e l is = (omega (arith, l.small_code a e is), omega (arith, near_there g t a e l is, l.few_nodes))
 
 -- one neighbour more
 pub through_more : (g : Graph) (t : Terminal) (u k : ℕ) (h : Neighbour) (P : ℕ → Ends → Type 0) → LawfulGraph g → (b : Beside g t u k h) → Through g t u k P → P h.outward b.ends → Through g t u (k + 1) P

@@ -24,19 +24,15 @@ beside_inward {v = v} {t = t} {h = h} l b =
 pub inward_there : (v : Net) (t : Terminal) (u : ℕ) (h : Neighbour) → Lawful v → Inward v.graph t u h → h.node < v.graph.nodes
 inward_there v t u h l (e, is, from, to) = rw (← from) (near_there v.graph t h.inward e l.graph is)
 
-pub offers : (v : Net) (f : Forest) (t : Terminal) (u : ℕ) (h : Neighbour) → Inward v.graph t u h → 0 < v.residual h.inward → f.tree h.node ≡ Some t → Anchored v.graph f.parent t h.node → Offered v f t u h.inward
-offers v f t u h (e, is, from, to) some mine anchored = (
-  e,
-  record { ends = is; child = to; positive = some; same_tree = rw from mine },
-  rw from anchored,
-)
+pub offers : (v : Net) (f : Forest) (t : Terminal) (u : ℕ) (h : Neighbour) → Inward v.graph t u h → 0 < v.residual h.inward → f.tree h.node ≡ Some t → Anchored v.graph f.parent t h.node → Offered v f t u h.inward h.node
+offers v f t u h (e, is, from, to) some mine anchored = ((e, record { ends = is; child = to; positive = some; same_tree = rw from mine }, from), anchored)
 
 pub found_stands : (v : Net) (f f' : Forest) (t : Terminal) (u : ℕ) (r : Option Offer) → f' ≡ restaged f f'.stage → Found v f t u r → Found v f' t u r
 found_stands v f f' t u None is found = tt
-found_stands v f f' t u (Some o) is found = offer_stands v f f' t u o.arc is found
+found_stands v f f' t u (Some o) is found = offer_stands v f f' t u o.parent.inward o.parent.node is found
 
 -- the nearer of two parents is one of them
-pub found_nearer : (v : Net) (f : Forest) (t : Terminal) (u : ℕ) (best : Option Offer) (r o : Offer) → (Some r ≡ best) ⊎ (r ≡ o) → Found v f t u best → Offered v f t u o.arc → Offered v f t u r.arc
+pub found_nearer : (v : Net) (f : Forest) (t : Terminal) (u : ℕ) (best : Option Offer) (r o : Offer) → (Some r ≡ best) ⊎ (r ≡ o) → Found v f t u best → Offered v f t u o.parent.inward o.parent.node → Offered v f t u r.parent.inward r.parent.node
 found_nearer v f t u best r o which found offer = ⊎_elim
     (λ (is : Some r ≡ best). subst (Found v f t u) (sym is) found)
     (λ (is : r ≡ o). rw is offer)

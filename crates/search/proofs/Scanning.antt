@@ -1,5 +1,5 @@
 -- The loop that looks at the arcs of a node: what holds before each place.
-use Rattle.std.proofs.Common.{◌≡◌, ℕ, ◌+◌, ◌<◌, ◌≤◌, true, Some, None, refl, ap, ◌∙◌, arith}
+use Rattle.std.proofs.Common.{◌≡◌, ℕ, ◌+◌, ◌<◌, ◌≤◌, true, Some, None, refl, ap, ◌∙◌, subst, arith}
 use Rattle.std.proofs.lemmas.Bool.Decides.{nat_tests}
 use Rattle.std.specs.List.{slice_get}
 use Rattle.network.specs.declared.terminal.Terminal.{Terminal}
@@ -46,26 +46,27 @@ scanning_more {v = v} {t = t} {u = u} {k = k} {f = f} {h = h} l s b inside = rec
 }
 
 -- a free node joins
-scanning_joined : (v : Net) (t : Terminal) (u k : ℕ) (before f : Forest) (h : Neighbour) → Lawful v → Scanning v t u k before f → Beside v.graph t u k h → 0 < v.residual h.outward → f.tree h.node ≡ None → Scanning v t u (k + 1) before (joined f t h.node (Along h.outward))
+scanning_joined : (v : Net) (t : Terminal) (u k : ℕ) (before f : Forest) (h : Neighbour) → Lawful v → Scanning v t u k before f → Beside v.graph t u k h → 0 < v.residual h.outward → f.tree h.node ≡ None → Scanning v t u (k + 1) before (joined f t h.node (Along h.outward u))
 scanning_joined v t u k before f h l s b some free =
     let a = h.outward in
     let w = h.node in
-    let f' = joined f t w (Along a) in
+    let p = Along a u in
+    let f' = joined f t w p in
     let there : w < v.graph.nodes = omega (arith, b.to, far_there v.graph t a b.ends l.graph b.out) in
     let kept : (x : ℕ) (y : Terminal) → f.tree x ≡ Some y → f'.tree x ≡ Some y = λ x y in_tree. grind (arith, nat_tests) in
-    let joins = join_trees v (with_queued f Waiting u true) t w a b.ends l s.trees free (record { ends = b.out; child = b.to; positive = some; same_tree = ap f.tree b.from ∙ s.mine }) in
+    let joins : Trees v (joined (with_queued f Waiting u true) t w p) = subst (λ z. Trees v (joined (with_queued f Waiting u true) t w (Along a z))) b.from (join_trees v (with_queued f Waiting u true) t w a b.ends l s.trees free (record { ends = b.out; child = b.to; positive = some; same_tree = ap f.tree b.from ∙ s.mine })) in
     scanning_more {f = f'} l
     (record {
-      trees = requeue_trees v (joined (with_queued f Waiting u true) t w (Along a)) _ (at_twice (f.queued Waiting) u w) (λ _ is. is) joins;
+      trees = requeue_trees v (joined (with_queued f Waiting u true) t w p) _ (at_twice (f.queued Waiting) u w) (λ _ is. is) joins;
       mine = kept u t s.mine;
       grows = record { size = s.grows.size; orphans = s.grows.orphans; stages = s.grows.stages };
-      left = omega (arith, s.left, growth_joined v.graph.nodes w f t (Along a) there free);
+      left = omega (arith, s.left, growth_joined v.graph.nodes w f t p there free);
       seen = λ j c e below is from at more. kept (far t e) t (s.seen j c e below is from at more);
     })
     b
     (λ _. at_here f.tree w (Some t) w refl)
 
-pub scanning_grown : {v : Net} {t : Terminal} {u k : ℕ} {before f f' : Forest} {h : Neighbour} → Lawful v → Scanning v t u k before f → Beside v.graph t u k h → 0 < v.residual h.outward → f.tree h.node ≡ None → f' ≡ joined f t h.node (Along h.outward) → Scanning v t u (k + 1) before f'
+pub scanning_grown : {v : Net} {t : Terminal} {u k : ℕ} {before f f' : Forest} {h : Neighbour} → Lawful v → Scanning v t u k before f → Beside v.graph t u k h → 0 < v.residual h.outward → f.tree h.node ≡ None → f' ≡ joined f t h.node (Along h.outward u) → Scanning v t u (k + 1) before f'
 scanning_grown l s b some free is = rw is (scanning_joined _ _ _ _ _ _ _ l s b some free)
 
 -- every arc has been seen: the node need not wait

@@ -23,13 +23,13 @@ abbrev pub Inward : Graph → Terminal → ℕ → Neighbour → Type 0
 Inward g t u h = (e : Ends) × (g.ends h.inward ≡ Some e) × (near t e ≡ h.node) × (far t e ≡ u)
 
 -- a neighbour that offers itself as a parent is one that can be taken
-abbrev pub Answered : Net → Forest → Terminal → ℕ → ℕ → Option ℕ → Type 0
-Answered v f t u a None = Unit {0}
-Answered v f t u a (Some _) = Offered v f t u a
+abbrev pub Answered : Net → Forest → Terminal → ℕ → Neighbour → Option ℕ → Type 0
+Answered v f t u h None = Unit {0}
+Answered v f t u h (Some _) = Offered v f t u h.inward h.node
 
 abbrev pub Found : Net → Forest → Terminal → ℕ → Option Offer → Type 0
 Found v f t u None = Unit {0}
-Found v f t u (Some o) = Offered v f t u o.arc
+Found v f t u (Some o) = Offered v f t u o.parent.inward o.parent.node
 
 -- the tree of an orphan
 abbrev pub OrphanOf : Work → Option Terminal → Type 0

@@ -16,7 +16,7 @@ use Rattle.search.specs.declared.tracing.Way.{Way}
 -- the arc that u hangs from and the node above it, or none where u hangs from the terminal
 abbrev pub Hops : Graph → (ℕ → Parent) → Terminal → ℕ → Option Hop → Type 0
 Hops g parent t u None = parent u ≡ Root
-Hops g parent t u (Some h) = (parent u ≡ Along h.arc) × (e : Ends) × (g.ends h.arc ≡ Some e) × (near t e ≡ h.node)
+Hops g parent t u (Some h) = (parent u ≡ Along h.arc h.node) × (e : Ends) × (g.ends h.arc ≡ Some e) × (near t e ≡ h.node)
 
 -- such arcs are written
 abbrev pub WayWritten : Net → Forest → List ℕ → List ℕ → Way → Type 0

@@ -9,15 +9,15 @@ ghost use Rattle.trees.specs.Searches.{TreesBut};
 ghost use Rattle.search.specs.Adoptions.{Measured, Inward, Answered, Found, woken, released, OrphanOf};
 ghost use Rattle.search.specs.Tables.{forest_of};
 
-use super::reading::{Neighbour, near_end, neighbours, residual};
-use super::table::Table;
+use super::reading::{Neighbour, neighbours, residual};
+use super::table::{Table, hanging};
 use network::{Network, Terminal};
 use trees::{Lane, Parent, Work};
 
-// A parent that an orphan could take: the arc to the orphan, and how far the parent is from the terminal.
+// A parent that an orphan could take, and how far it is from the terminal.
 #[derive(Clone, Copy, PartialEq, Eq, Debug)]
 pub(crate) struct Offer {
-    pub(crate) arc: usize,
+    pub(crate) parent: Neighbour,
     pub(crate) distance: usize,
 }
 
@@ -59,7 +59,7 @@ impl<N: Network> Adoption<'_, N> {
             match record.parent {
                 Parent::Orphan => return None,
                 Parent::Root => return Some(steps + 1),
-                Parent::Along(arc) => at = near_end(self.net, self.terminal, arc),
+                Parent::Along { node: above, .. } => at = above as usize,
             }
         }
         None
@@ -81,10 +81,10 @@ impl<N: Network> Adoption<'_, N> {
                 return;
             }
             table.set_stage(at, self.stage, distance.saturating_sub(steps));
-            let Parent::Along(arc) = record.parent else {
+            let Parent::Along { node: above, .. } = record.parent else {
                 return;
             };
-            at = near_end(self.net, self.terminal, arc);
+            at = above as usize;
         }
     }
 
@@ -92,7 +92,7 @@ impl<N: Network> Adoption<'_, N> {
     fn ask(&self, table: &mut Table, node: usize, next: Neighbour) -> Option<usize>
         requires survey { Survey (N.Network.value self.now.net.now) (forest_of table.old) self.now.stage }
         requires inward { Inward (N.Network.value self.now.net.now).graph self.now.terminal node next }
-        ensures answer { Answered (N.Network.value self.now.net.now) (forest_of table.new) self.now.terminal node next.inward result }
+        ensures answer { Answered (N.Network.value self.now.net.now) (forest_of table.new) self.now.terminal node next result }
         ensures survey { Survey (N.Network.value self.now.net.now) (forest_of table.new) self.now.stage }
         ensures trees { forest_of table.new ≡ restaged (forest_of table.old) (forest_of table.new).stage }
     {
@@ -116,7 +116,7 @@ impl<N: Network> Adoption<'_, N> {
         for next in neighbours(self.net, self.terminal, node) {
             if let Some(distance) = self.ask(table, node, next) {
                 let offer = Offer {
-                    arc: next.inward,
+                    parent: next,
                     distance,
                 };
                 best = Some(nearer(best, offer));
@@ -177,7 +177,7 @@ impl<N: Network> Adoption<'_, N> {
     {
         match self.find_parent(table, node) {
             Some(offer) => {
-                table.set_parent(node, Parent::Along(offer.arc));
+                table.set_parent(node, hanging(offer.parent.inward, offer.parent.node));
                 table.set_stage(node, self.stage, offer.distance.saturating_add(1));
             }
             None => self.free(table, node),

@@ -6,9 +6,9 @@ ghost use Rattle.trees.specs.Searches.{TreesBut, Scanned, Grown, Grows};
 ghost use Rattle.search.specs.Tables.{forest_of};
 
 use super::reading::{neighbours, residual};
-use super::table::Table;
+use super::table::{Table, hanging};
 use network::{Network, Terminal};
-use trees::{Lane, Parent};
+use trees::Lane;
 
 // Looks at the arcs of a node that waited: free neighbours join its tree, and the first neighbour in the other tree ends the
 // search with the arc between them.
@@ -28,7 +28,7 @@ pub(crate) fn scan<N: Network>(
     for next in neighbours(net, terminal, node) {
         if residual(net, next.outward) > 0 {
             match table.work(next.node).tree {
-                None => table.join(terminal, next.node, Parent::Along(next.outward)),
+                None => table.join(terminal, next.node, hanging(next.outward, node)),
                 Some(same) if same == terminal => {}
                 Some(_) => return Some(next.outward),
             }

@@ -1,7 +1,8 @@
 // The working table of a run: the records of all nodes, in which the two search trees lie, and the two queues, first come first
 // served, whose rings lie in the records too.
-ghost use Rattle.std.specs.Prelude.{◌≡◌, ◌+◌, ◌<◌, ◌≤◌, true, false, length};
+ghost use Rattle.std.specs.Prelude.{◌≡◌, ◌+◌, ◌^◌, ◌<◌, ◌≤◌, true, false, length};
 ghost use Rattle.network.specs.Nets.{at};
+ghost use Rattle.trees.specs.declared.work.Parent.TheVariants.{Along};
 ghost use Rattle.trees.specs.Forests.{forest, slots, at_lane, with_queued};
 ghost use Rattle.trees.specs.Rings.{wrap};
 ghost use Rattle.trees.specs.Searches.{Kept};
@@ -18,6 +19,8 @@ pub(crate) struct Table<'a> {
     queues: Queues,
     // each queue holds the nodes that are marked as queued, each once
     ghost kept: { Kept work.now queues },
+    // so few that a record holds any node's number
+    ghost few: { length work.now ≤ 4096 },
 }
 
 impl<'a> Table<'a> {
@@ -29,6 +32,7 @@ impl<'a> Table<'a> {
 
     // The table as a run begins: every node is in no tree and in no queue.
     pub(crate) fn cleared(work: &'a mut [Work]) -> Table<'a>
+        requires { length work.old ≤ 4096 }
         ensures { forest_of result ≡ cleared (length work.old) }
     {
         work.fill(Work::blank());
@@ -118,7 +122,7 @@ impl<'a> Table<'a> {
             return None;
         }
         let size = self.work.len();
-        let node = self.work[place_after(size, head, 0)].slots.get(lane);
+        let node = self.work[place_after(size, head, 0)].slots.get(lane) as usize;
         dequeue(self.work, lane, node);
         let shorter = Ring {
             head: place_after(size, head, 1),
@@ -152,9 +156,21 @@ impl<'a> Table<'a> {
         requires { child < (forest_of self.old).size }
         ensures { forest_of self.new ≡ disowned (forest_of self.old) child arc }
     {
-        if self.work(child).parent == Parent::Along(arc) {
+        if self.work(child).parent.is_along(arc) {
             self.orphan(child);
         }
+    }
+}
+
+// Where a node hangs that hangs from another, by the arc between them. A network has few enough of both that a record holds any.
+pub(crate) fn hanging(arc: usize, node: usize) -> Parent
+    requires arc { arc < 2 ^ 16 }
+    requires node { node < 2 ^ 16 }
+    ensures { result ≡ Along arc node }
+{
+    Parent::Along {
+        arc: arc as u16,
+        node: node as u16,
     }
 }
 
@@ -175,10 +191,11 @@ fn place_after(size: usize, head: usize, steps: usize) -> usize
 fn enqueue(work: &mut [Work], lane: Lane, place: usize, node: usize)
     requires place { place < length work.old }
     requires node { node < length work.old }
+    requires few { length work.old ≤ 4096 }
     ensures trees { forest work.new ≡ with_queued (forest work.old) lane node true }
     ensures places { slots work.new ≡ at_lane (slots work.old) lane (at (slots work.old lane) place node) }
 {
-    work[place].slots.set(lane, node);
+    work[place].slots.set(lane, node as u16);
     work[node].queued.set(lane, true);
 }
 

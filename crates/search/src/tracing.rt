@@ -57,9 +57,9 @@ impl<N: Network> Tracer<'_, '_, N> {
         ensures { Hops (N.Network.value self.now.net.now).graph (forest_of self.now.table.now).parent terminal node result }
     {
         match self.table.work(node).parent {
-            Parent::Along(arc) => Some(Hop {
-                arc,
-                node: near_end(self.net, terminal, arc),
+            Parent::Along { arc, node: above } => Some(Hop {
+                arc: arc as usize,
+                node: above as usize,
             }),
             Parent::Root | Parent::Orphan => None,
         }

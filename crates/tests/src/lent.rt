@@ -5,7 +5,7 @@ use trees::{Lanes, Work};
 // What stands in all that a run is lent; no run here writes it.
 pub(crate) const OLD: u64 = 99;
 
-const OLD_PLACE: usize = 99;
+const OLD_PLACE: u16 = 99;
 
 pub(crate) const OLD_MARK: u8 = 9;
 
@@ -17,7 +17,7 @@ pub(crate) fn old_record() -> Work {
             orphans: OLD_PLACE,
         },
         stage: OLD,
-        distance: OLD_PLACE,
+        distance: OLD as usize,
         ..Work::blank()
     }
 }
@@ -34,7 +34,7 @@ pub(crate) fn kept_from(
 ) {
     for i in record..work.len() {
         assert_eq!(rt; work[i].stage, OLD);
-        assert_eq!(rt; work[i].distance, OLD_PLACE);
+        assert_eq!(rt; work[i].distance, OLD as usize);
         assert_eq!(rt; work[i].slots.waiting, OLD_PLACE);
         assert_eq!(rt; work[i].slots.orphans, OLD_PLACE);
     }

@@ -2,6 +2,7 @@
 use Rattle.std.proofs.Common.{◌≡◌, ℕ, true, Some, refl, ap, ◌∙◌}
 use Rattle.network.specs.declared.terminal.Terminal.{Terminal}
 use Rattle.network.specs.Nets.{Net, Lawful}
+use Rattle.network.specs.Sides.{near}
 use Rattle.trees.specs.declared.lane.Lane.TheVariants.{Orphans}
 use Rattle.trees.specs.declared.work.Parent.TheVariants.{Orphan, Along}
 use Rattle.trees.specs.Forests.{Forest, with_parent, with_queued, with_stage}
@@ -26,20 +27,21 @@ orphan_stays v f f' t u is o = rw is (record {
   alone = o.alone;
 })
 
-pub adopted_trees : {v : Net} {f : Forest} {t : Terminal} {u a : ℕ} (stage : ℕ) → Lawful v → PickedOrphan v f t u → Offered v f t u a → Trees v (with_stage (with_parent f u (Along a)) u stage)
-adopted_trees {v = v} {f = f} {t = t} {u = u} {a = a} stage l o (e, b, anchored) =
-    let f' = with_parent f u (Along a) in
-    restage_trees v f' (with_stage f' u stage).stage (adopt_trees v f t u a e l o.trees o.alone o.mine b anchored)
+pub adopted_trees : {v : Net} {f : Forest} {t : Terminal} {u a w : ℕ} (stage : ℕ) → Lawful v → PickedOrphan v f t u → Offered v f t u a w → Trees v (with_stage (with_parent f u (Along a w)) u stage)
+adopted_trees {v = v} {f = f} {t = t} {u = u} {a = a} stage l o ((e, b, from), anchored) =
+    let f' = with_parent f u (Along a (near t e)) in
+    rw (← from) (restage_trees v f' (with_stage f' u stage).stage (adopt_trees v f t u a e l o.trees o.alone o.mine b (rw from anchored)))
 
-pub adopted_survey : {v : Net} {f : Forest} {t : Terminal} {u a stage : ℕ} → PickedOrphan v f t u → Offered v f t u a → Survey v f stage → Survey v (with_stage (with_parent f u (Along a)) u stage) stage
-adopted_survey {v = v} {f = f} {t = t} {u = u} {a = a} {stage = stage} o (e, b, anchored) s =
-    let f' = with_parent f u (Along a) in
-    let above = anchored_adopted v.graph f.parent t u _ (Along a) o.alone anchored in
-    survey_stage v f' stage t u (survey_adopted v f stage t u a s o.alone o.mine (e, b, anchored)) o.mine (anchored_below v.graph f'.parent t u a e (at_here f.parent u (Along a) u refl) b.ends above)
+pub adopted_survey : {v : Net} {f : Forest} {t : Terminal} {u a w stage : ℕ} → PickedOrphan v f t u → Offered v f t u a w → Survey v f stage → Survey v (with_stage (with_parent f u (Along a w)) u stage) stage
+adopted_survey {v = v} {f = f} {t = t} {u = u} {a = a} {stage = stage} o ((e, b, from), anchored) s =
+    let p = Along a (near t e) in
+    let f' = with_parent f u p in
+    let above = anchored_adopted v.graph f.parent t u (near t e) p o.alone (rw from anchored) in
+    rw (← from) (survey_stage v f' stage t u (survey_adopted v f stage t u a e s o.alone o.mine b) o.mine (anchored_below v.graph f'.parent t u a e (at_here f.parent u p u refl) b.ends above))
 
 -- an offer stands while only stages change
-pub offer_stands : (v : Net) (f f' : Forest) (t : Terminal) (u a : ℕ) → f' ≡ restaged f f'.stage → Offered v f t u a → Offered v f' t u a
-offer_stands v f f' t u a is (e, b, anchored) = rw is (e, branch_in v f (restaged f f'.stage) t u a e b b.same_tree, anchored)
+pub offer_stands : (v : Net) (f f' : Forest) (t : Terminal) (u a w : ℕ) → f' ≡ restaged f f'.stage → Offered v f t u a w → Offered v f' t u a w
+offer_stands v f f' t u a w is ((e, b, from), anchored) = rw is ((e, branch_in v f (restaged f f'.stage) t u a e b b.same_tree, from), anchored)
 
 -- only stages have changed, and once more
 pub restaged_on : (f g h : Forest) → g ≡ restaged f g.stage → h ≡ restaged g h.stage → h ≡ restaged f h.stage

@@ -9,20 +9,16 @@ use Rattle.trees.specs.declared.work.Parent.{Parent}
 use Rattle.trees.specs.declared.work.Parent.TheVariants.{Orphan, Root, Along}
 use Rattle.trees.specs.Forests.{Forest}
 use Rattle.trees.specs.Rings.{Empty}
-use Rattle.trees.specs.Trees.{Climb, Anchored, Branch, Trees, There}
+use Rattle.trees.specs.Trees.{Climb, Anchored, Branch, BranchFrom, Trees}
 use Rattle.trees.specs.Trees.Climb.{here, up}
 
 -- a node's parent arc, whichever way its ends were told
-pub branch_at : (v : Net) (f : Forest) (t : Terminal) (u a : ℕ) (e : Ends) → (d : Ends) × Branch v f t u a d → v.graph.ends a ≡ Some e → Branch v f t u a e
-branch_at v f t u a e (d, b) is = rw (← one_ends v.graph a d e b.ends is) b
-
--- a node's parent arc is there
-pub branch_there : {v : Net} {f : Forest} {t : Terminal} {u a : ℕ} → (e : Ends) × Branch v f t u a e → There v.graph a
-branch_there (e, b) = (e, b.ends)
+pub branch_at : (v : Net) (f : Forest) (t : Terminal) (u a w : ℕ) (e : Ends) → BranchFrom v f t u a w → v.graph.ends a ≡ Some e → Branch v f t u a e
+branch_at v f t u a w e (d, b, _) is = rw (← one_ends v.graph a d e b.ends is) b
 
 -- what the trees say of the arc that u hangs from
-pub parent_arc : (v : Net) (f : Forest) (t : Terminal) (u a : ℕ) (e : Ends) → Trees v f → u < v.graph.nodes → f.tree u ≡ Some t → f.parent u ≡ Along a → v.graph.ends a ≡ Some e → Branch v f t u a e
-parent_arc v f t u a e h there in_tree hung is = branch_at v f t u a e (h.parents t u a there in_tree hung) is
+pub parent_arc : (v : Net) (f : Forest) (t : Terminal) (u a : ℕ) (e : Ends) → Trees v f → u < v.graph.nodes → f.tree u ≡ Some t → f.parent u ≡ Along a (near t e) → v.graph.ends a ≡ Some e → Branch v f t u a e
+parent_arc v f t u a e h there in_tree hung is = branch_at v f t u a (near t e) e (h.parents t u a (near t e) there in_tree hung) is
 
 pub climb_stays : (v : Net) (f : Forest) (t : Terminal) (u w : ℕ) (arcs : List ℕ) → Lawful v → Trees v f → u < v.graph.nodes → f.tree u ≡ Some t → Climb v.graph f.parent t u w arcs → (w < v.graph.nodes) × (f.tree w ≡ Some t)
 climb_stays v f t u w arcs l h there in_tree here = (there, in_tree)
@@ -35,7 +31,7 @@ climb_append g parent t u w z xs ys here d = d
 climb_append g parent t u w z xs ys (up {arcs = more} a e hung is c) d = up a e hung is (climb_append g parent t (near t e) w z more ys c d)
 
 -- a climb with one arc more at its upper end
-pub climb_push : (g : Graph) (parent : ℕ → Parent) (t : Terminal) (u w : ℕ) (arcs : List ℕ) (a : ℕ) (e : Ends) → Climb g parent t u w arcs → parent w ≡ Along a → g.ends a ≡ Some e → Climb g parent t u (near t e) (arcs ++ a ∷ [])
+pub climb_push : (g : Graph) (parent : ℕ → Parent) (t : Terminal) (u w : ℕ) (arcs : List ℕ) (a : ℕ) (e : Ends) → Climb g parent t u w arcs → parent w ≡ Along a (near t e) → g.ends a ≡ Some e → Climb g parent t u (near t e) (arcs ++ a ∷ [])
 climb_push g parent t u w arcs a e c hung is = climb_append g parent t u w (near t e) arcs (a ∷ []) c (up a e hung is here)
 
 -- parents are a function, so the climbs from a node to the terminal have the same arcs

@@ -72,7 +72,7 @@ planting_ends v k f apart past p = record {
   size = p.size;
   roots = λ t u there some. let in_tree = p.planted u (omega arith) ∙ root_here v t u apart there some in (in_tree, (p.roots t u in_tree).0);
   rooted = λ t u there in_tree _. root_some v t u (sym (p.planted u (omega arith)) ∙ in_tree);
-  parents = λ t u a there in_tree along. cc (p.roots t u in_tree).0;
+  parents = λ t u a w there in_tree along. cc (p.roots t u in_tree).0;
   hangs = λ t u there in_tree. (u, [], here, inl (p.roots t u in_tree).0);
   frontier = λ t a e _ _ in_tree. inr (p.roots t (near t e) in_tree).1;
   orphans = λ t u there in_tree alone. cc (p.roots t u in_tree).0;

@@ -1,8 +1,7 @@
 -- The climb that remembers all nodes on its way: what holds at each of them.
 use Rattle.std.proofs.Common.{◌≡◌, ℕ, ◌<◌, Some, ap}
 use Rattle.network.specs.declared.terminal.Terminal.{Terminal}
-use Rattle.network.specs.Nets.{Net, Lawful, ends_of}
-use Rattle.network.specs.Sides.{near}
+use Rattle.network.specs.Nets.{Net, Lawful}
 use Rattle.trees.specs.declared.work.Parent.TheVariants.{Along}
 use Rattle.trees.specs.Forests.{Forest, with_stage}
 use Rattle.trees.specs.Trees.{Anchored}
@@ -28,9 +27,9 @@ remembering_marked {v = v} {t = t} {stage = stage} {f = f} {u = u} r is =
       only = ap (λ (x : Forest). with_stage x u stage) r.noted.only;
     })
 
-pub remembering_on : {v : Net} {t : Terminal} {stage : ℕ} {f₀ f f₁ : Forest} {u w : ℕ} (a : ℕ) → Lawful v → Remembering v t stage f₀ f u → f₁ ≡ with_stage f u stage → f.parent u ≡ Along a → w ≡ near t (ends_of v.graph a) → Remembering v t stage f₀ f₁ w
-remembering_on a l r is at to =
-    let step = step_up a l r.noted.survey r.there r.mine at to in
+pub remembering_on : {v : Net} {t : Terminal} {stage : ℕ} {f₀ f f₁ : Forest} {u w : ℕ} (a : ℕ) → Lawful v → Remembering v t stage f₀ f u → f₁ ≡ with_stage f u stage → f.parent u ≡ Along a w → Remembering v t stage f₀ f₁ w
+remembering_on a l r is at =
+    let step = step_up a l r.noted.survey r.there r.mine at in
     record {
       noted = remembering_marked r is;
       there = step.there;

@@ -21,7 +21,7 @@ back_inside f Source a e (inr (tail, head)) in_near = cc
 back_inside f Sink a e (inr (tail, head)) in_near = cc
 
 -- an onward arc carries x; if that empties it, nobody hangs from it
-pub shift_trees : (v : Net) (f : Forest) (a x : ℕ) (e : Ends) → Lawful v → Trees v f → v.graph.ends a ≡ Some e → Onward f e → (v.residual a ≡ x → (t : Terminal) (u : ℕ) → Branch v f t u a e → f.tree u ≡ Some t → f.parent u ≡ Along a → ⊥) → x ≤ v.residual a → Trees (shifted v a x) f
+pub shift_trees : (v : Net) (f : Forest) (a x : ℕ) (e : Ends) → Lawful v → Trees v f → v.graph.ends a ≡ Some e → Onward f e → (v.residual a ≡ x → (t : Terminal) (u w : ℕ) → Branch v f t u a e → f.tree u ≡ Some t → f.parent u ≡ Along a w → ⊥) → x ≤ v.residual a → Trees (shifted v a x) f
 shift_trees v f a x e l h is onward held less =
     let now = residuals v a x e l is in
     let after : ℕ → ℕ = (shifted v a x).residual in
@@ -32,12 +32,12 @@ shift_trees v f a x e l h is onward held less =
       size = h.size;
       roots = h.roots;
       rooted = h.rooted;
-      parents = λ t u b there in_tree at_u.
-          let (d, br) = h.parents t u b there in_tree at_u in
+      parents = λ t u b w there in_tree at_u.
+          let (d, br, from) = h.parents t u b w there in_tree at_u in
           let full : b ≡ a → v.residual a ≡ x → ⊥ = λ same all.
           let ends = one_ends v.graph a d e (ap v.graph.ends (sym same) ∙ br.ends) is in
-          held all t u (subst₂ (Branch v f t u) same ends br) in_tree (cc) in
-          (d, record { ends = br.ends; child = br.child; positive = left b full br.positive; same_tree = br.same_tree });
+          held all t u w (subst₂ (Branch v f t u) same ends br) in_tree (cc) in
+          (d, record { ends = br.ends; child = br.child; positive = left b full br.positive; same_tree = br.same_tree }, from);
       hangs = h.hangs;
       frontier = λ t b d at_b some in_tree. ⊎_elim
           (λ (back : b ≡ e.reverse).
@@ -70,7 +70,7 @@ take_part_trees v f t u x h less =
       size = h.size;
       roots = λ s w there some. h.roots s w there (omega (arith, taken_le v t s u x w));
       rooted = λ s w there in_tree root. positive t s w less (h.rooted s w there in_tree root);
-      parents = λ s w a there in_tree at. let (e, b) = h.parents s w a there in_tree at in (e, branch_taken v f f t s u x w a e b refl);
+      parents = λ s w a z there in_tree at. let (e, b, from) = h.parents s w a z there in_tree at in (e, branch_taken v f f t s u x w a e b refl, from);
       hangs = h.hangs;
       frontier = h.frontier;
       orphans = h.orphans;
@@ -98,9 +98,9 @@ take_all_trees v f t u x h here-there some all =
       rooted = λ s w there in_tree is.
           let (other, was) = cut_root f.parent u w is in
           omega (arith, h.rooted s w there in_tree was, taken_else v t s u x w (λ _. other));
-      parents = λ s w a there in_tree at_w.
-          let (e, b) = h.parents s w a there in_tree (cut_along f.parent u w a at_w) in
-          (e, branch_taken v f (orphaned f u) t s u x w a e b refl);
+      parents = λ s w a z there in_tree at_w.
+          let (e, b, from) = h.parents s w a z there in_tree (cut_along f.parent u w a z at_w) in
+          (e, branch_taken v f (orphaned f u) t s u x w a e b refl, from);
       hangs = λ s w there in_tree. let (top, arcs, climb, ends) = h.hangs s w there in_tree in hang_cut v.graph f.parent s u w top arcs climb ends;
       frontier = h.frontier;
       orphans = λ s w there in_tree is. grind (arith, nat_tests, h.orphans s w there in_tree);

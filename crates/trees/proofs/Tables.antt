@@ -1,5 +1,5 @@
 -- What a write to one record of a table changes of its meaning.
-use Rattle.std.proofs.Common.{◌≡◌, ℕ, zero, suc, ◌<◌, Bool, List, length, set, replicate, Option, refl, ap, ◌∙◌, arith, length-set}
+use Rattle.std.proofs.Common.{◌≡◌, ℕ, zero, suc, ◌<◌, ◌≤◌, Bool, List, length, set, replicate, Option, refl, ap, ◌∙◌, arith, length-set}
 use lib.ListN.{length-replicate}
 use Rattle.std.proofs.lemmas.List.{get_or-set_same, get_or-set_other}
 use Rattle.std.proofs.lemmas.Bool.Decides.{nat_tests}
@@ -81,6 +81,10 @@ slots_same ws u w h same = λ i l k. each l k i
   where
     each : (l : Lane) (k : ℕ) → slots (set ws u w) l k ≡ slots ws l k
     each l k = grind (arith, nat_tests, work_at_set ws u w k h)
+
+-- a write leaves the number of records
+pub few_kept : (ws : List Work) (u : ℕ) (w : Work) → length ws ≤ 4096 → length (set ws u w) ≤ 4096
+few_kept ws u w few = omega (arith, length-set ws u w)
 
 -- a table of blank records
 blank_at : (n u : ℕ) → work_at (replicate n blank) u ≡ blank

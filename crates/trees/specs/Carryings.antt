@@ -12,7 +12,7 @@ use Rattle.trees.specs.Trees.{Onward, AllOnward}
 abbrev pub is_along : Parent → ℕ → Bool
 is_along Orphan a = false
 is_along Root a = false
-is_along (Along b) a = b == a
+is_along (Along b w) a = b == a
 
 -- f where u, if it hangs from the arc a, has lost its parent
 abbrev pub disowned : Forest → ℕ → ℕ → Forest

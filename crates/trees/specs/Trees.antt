@@ -19,7 +19,7 @@ There g a = (e : Ends) × (g.ends a ≡ Some e)
 -- parents lead from a node of the tree of t up to another, by these arcs
 pub data Climb (g : Graph) (parent : ℕ → Parent) (t : Terminal) : ℕ → ℕ → List ℕ → Type 0 where
   here : {u : ℕ} → Climb g parent t u u []
-  up : {u w : ℕ} {arcs : List ℕ} (a : ℕ) (e : Ends) → parent u ≡ Along a → g.ends a ≡ Some e → Climb g parent t (near t e) w arcs → Climb g parent t u w (a ∷ arcs)
+  up : {u w : ℕ} {arcs : List ℕ} (a : ℕ) (e : Ends) → parent u ≡ Along a (near t e) → g.ends a ≡ Some e → Climb g parent t (near t e) w arcs → Climb g parent t u w (a ∷ arcs)
 
 -- parents lead from u to the terminal
 abbrev pub Anchored : Graph → (ℕ → Parent) → Terminal → ℕ → Type 0
@@ -36,12 +36,20 @@ pub record Branch (v : Net) (f : Forest) (t : Terminal) (u a : ℕ) (e : Ends) :
   pub positive : 0 < v.residual a
   pub same_tree : f.tree (near t e) ≡ Some t
 
+-- and it does so from w
+abbrev pub BranchFrom : Net → Forest → Terminal → ℕ → ℕ → ℕ → Type 0
+BranchFrom v f t u a w = (e : Ends) × Branch v f t u a e × (near t e ≡ w)
+
+-- nodes of trees that have a parent hang from the near end of an arc that is there
+abbrev pub Parents : Net → Forest → Type 0
+Parents v f = (t : Terminal) (u a w : ℕ) → u < v.graph.nodes → f.tree u ≡ Some t → f.parent u ≡ Along a w → BranchFrom v f t u a w
+
 pub record Trees (v : Net) (f : Forest) : Type 0 where
   pub size : f.size ≡ v.graph.nodes
   -- the terminal's children are the nodes with a residual at the terminal
   pub roots : (t : Terminal) (u : ℕ) → u < v.graph.nodes → 0 < v.terminal t u → (f.tree u ≡ Some t) × (f.parent u ≡ Root)
   pub rooted : (t : Terminal) (u : ℕ) → u < v.graph.nodes → f.tree u ≡ Some t → f.parent u ≡ Root → 0 < v.terminal t u
-  pub parents : (t : Terminal) (u a : ℕ) → u < v.graph.nodes → f.tree u ≡ Some t → f.parent u ≡ Along a → (e : Ends) × Branch v f t u a e
+  pub parents : Parents v f
   -- there are no rings
   pub hangs : (t : Terminal) (u : ℕ) → u < v.graph.nodes → f.tree u ≡ Some t → Hangs v.graph f.parent t u
   -- where something can be sent out of a tree, the tree's end waits

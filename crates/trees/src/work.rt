@@ -1,6 +1,7 @@
 // The record of a node in the two search trees.
 ghost use Rattle.std.specs.Prelude.{◌≡◌};
 ghost use Rattle.trees.specs.Forests.{blank};
+ghost use Rattle.trees.specs.Carryings.{is_along};
 
 use super::lane::Lanes;
 use network::Terminal;
@@ -13,8 +14,20 @@ pub enum Parent {
     Orphan,
     // from the terminal itself
     Root,
-    // from the arc's other end
-    Along(usize),
+    // from another node, the near end of the arc
+    Along { arc: u16, node: u16 },
+}
+
+impl Parent {
+    // Whether it is another node, from which the arc leads.
+    pub fn is_along(self, arc: usize) -> bool
+        ensures { result ≡ is_along self arc }
+    {
+        match self {
+            Parent::Along { arc: own, .. } => own as usize == arc,
+            Parent::Orphan | Parent::Root => false,
+        }
+    }
 }
 
 // Nodes go by their numbers and arcs by their codes, and no record holds another: the user lends the table, and nothing is allocated.
@@ -26,7 +39,7 @@ pub struct Work {
     // whether the node is in a queue
     pub queued: Lanes<bool>,
     // the node that stands at this record's place in the ring of a queue
-    pub slots: Lanes<usize>,
+    pub slots: Lanes<u16>,
     // what adoption found out about it: the stage in which it was last seen to hang from its terminal, and how far from it
     pub stage: u64,
     pub distance: usize,

@@ -1,5 +1,5 @@
 use Rattle.std.proofs.Common.{◌+◌, arith, rules}
-use Rattle.search.proofs.Neighbours.{met, past_last}
+use Rattle.search.proofs.Neighbours.{met, past_last, few_numbers}
 use Rattle.search.proofs.Scanning.{scanning_there, scanning_more, scanning_grown, scanning_ends}
 use Rattle.search.proofs.growth.scan.Goals as goal
 
@@ -7,6 +7,13 @@ pub work-requires : goal.work-requires
 work-requires g c =
     let (k, stands, s) = c.loop-next.invariant in
     scanning_there (g.N.Network.lawful c.args.net.now) s (met g.N.Network.value stands c.in-Some.ensures.steps).0
+
+pub hanging-requires : goal.hanging-requires
+hanging-requires g c =
+    let (k, stands, s) = c.loop-next.invariant in
+    let (b, _) = met g.N.Network.value stands c.in-Some.ensures.steps in
+    let (arc, node) = few_numbers (g.N.Network.value c.args.net.now).graph c.args.terminal c.in-Some.next.outward b.ends (g.N.Network.lawful c.args.net.now).graph b.out in
+    record { arc = arc; node = rw (← b.from) node }
 
 pub join-requires : goal.join-requires
 join-requires g c =
@@ -17,7 +24,7 @@ pub loop-next-preserved-in-None-tree : goal.loop-next-preserved-in-None-tree
 loop-next-preserved-in-None-tree g c =
     let (k, stands, s) = c.loop-next.invariant in
     let (beside, on) = met g.N.Network.value stands c.in-Some.ensures.steps in
-    (k + 1, on, scanning_grown (g.N.Network.lawful c.args.net.now) s beside (omega arith) (cc) c.join.ensures)
+    (k + 1, on, scanning_grown (g.N.Network.lawful c.args.net.now) s beside (omega arith) (cc) (rw c.hanging.ensures at c.join.ensures))
 
 pub loop-next-preserved-then-eq : goal.loop-next-preserved-then-eq
 loop-next-preserved-then-eq g c =

@@ -16,4 +16,4 @@ returns-clause-answer g c =
     let t = c.args.self.now.terminal in
     let mine : f.tree h.node ≡ Some t = is_of_some _ t (cc) in
     let some : 0 < v.residual h.inward = omega arith in
-    offer_stands v f (forest_of c.remember.new.table) t c.args.node h.inward c.remember.ensures.trees (offers v f t c.args.node h c.requires.inward some mine c.in_ok-distance.ensures)
+    offer_stands v f (forest_of c.remember.new.table) t c.args.node h.inward h.node c.remember.ensures.trees (offers v f t c.args.node h c.requires.inward some mine c.in_ok-distance.ensures)

@@ -1,4 +1,3 @@
-use Rattle.trees.proofs.Climbs.{branch_there}
 use Rattle.trees.proofs.Anchors.{anchored_root}
 use Rattle.trees.proofs.Stepping.{step_up}
 use Rattle.search.specs.Tables.{forest_of}
@@ -10,13 +9,8 @@ returns-in-Root g c =
     let f = forest_of c.args.table.now in
     c.loop-steps.invariant.2 (anchored_root v.graph f.parent c.args.self.now.terminal c.loop-steps.at (cc))
 
-pub near_end-at-requires : goal.near_end-at-requires
-near_end-at-requires g c =
-    let (there, mine, _) = c.loop-steps.invariant in
-    branch_there (c.requires.survey.parents c.args.self.now.terminal c.loop-steps.at c.in-Along.arc there mine (cc))
-
 pub loop-steps-preserved : goal.loop-steps-preserved
 loop-steps-preserved g c =
     let (there, mine, on) = c.loop-steps.invariant in
-    let step = step_up c.in-Along.arc (g.N.Network.lawful c.args.self.now.net.now) c.requires.survey there mine (cc) c.near_end-at.ensures in
+    let step = step_up c.in-Along.arc (g.N.Network.lawful c.args.self.now.net.now) c.requires.survey there mine (cc) in
     (step.there, step.mine, λ anchored. on (step.below anchored))

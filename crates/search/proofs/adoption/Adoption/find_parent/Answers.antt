@@ -21,7 +21,7 @@ loop-next-preserved-in-Some-ask g c =
     let (_, on) = met g.N.Network.value stands c.in-Some.ensures.steps in
     let after = c.ask.ensures in
     let kept = found_stands v f f' t u c.loop-next.best after.trees found in
-    ((k + 1, on), after.survey, restaged_on (forest_of c.args.table.now) f f' only after.trees, found_nearer v f' t u c.loop-next.best c.nearer.result (record { arc = c.in-Some.next.inward; distance = c.in-Some-ask.distance }) c.nearer.ensures.one kept c.in-Some-ask.ensures.answer)
+    ((k + 1, on), after.survey, restaged_on (forest_of c.args.table.now) f f' only after.trees, found_nearer v f' t u c.loop-next.best c.nearer.result (record { parent = c.in-Some.next; distance = c.in-Some-ask.distance }) c.nearer.ensures.one kept c.in-Some-ask.ensures.answer)
 
 pub loop-next-preserved : goal.loop-next-preserved
 loop-next-preserved g c =

@@ -14,9 +14,9 @@ overflow_add-longer c =
     let ws = c.args.self.now.work.now in
     omega (arith, put_room (forest ws) (slots ws) _ c.args.lane c.args.node c.args.self.now.kept c.requires (cc), ap (λ (r : Ring). r.count) c.get-head.ensures)
 
-pub invariant_of-self : goal.invariant_of-self
-invariant_of-self c =
+pub invariant_of-self-clause-kept : goal.invariant_of-self-clause-kept
+invariant_of-self-clause-kept c =
     let ws = c.args.self.now.work.now in
     let places = rw (c.place_after-place.ensures, c.get-head.ensures) at c.enqueue.ensures.places in
     let rings = rw c.get-head.ensures at c.set.ensures in
-    record { kept = sound_is c.enqueue.ensures.trees places rings (sound_put (forest ws) (slots ws) c.args.self.now.queues c.args.lane c.args.node c.args.self.now.kept c.requires (cc)) }
+    sound_is c.enqueue.ensures.trees places rings (sound_put (forest ws) (slots ws) c.args.self.now.queues c.args.lane c.args.node c.args.self.now.kept c.requires (cc))

@@ -1,10 +1,13 @@
 use Rattle.std.proofs.Common.{refl}
-use Rattle.trees.proofs.Tables.{forest_parent, slots_same}
+use Rattle.trees.proofs.Tables.{forest_parent, slots_same, few_kept}
 use Rattle.trees.proofs.Queueing.{sound_is}
 use Rattle.search.proofs.table.Table.set_parent.Goals as goal
 
-pub invariant_of-self : goal.invariant_of-self
-invariant_of-self c = record { kept = sound_is (forest_parent _ _ _ c.requires) (slots_same _ _ _ c.requires refl) refl c.args.self.now.kept }
+pub invariant_of-self-clause-kept : goal.invariant_of-self-clause-kept
+invariant_of-self-clause-kept c = sound_is (forest_parent _ _ _ c.requires) (slots_same _ _ _ c.requires refl) refl c.args.self.now.kept
+
+pub invariant_of-self-clause-few : goal.invariant_of-self-clause-few
+invariant_of-self-clause-few c = few_kept _ _ _ c.args.self.now.few
 
 pub returns : goal.returns
 returns c = forest_parent _ _ _ c.requires
