@@ -1,7 +1,6 @@
 pub mod Neighbours
 pub mod Scanning
 pub mod Climbing
-pub mod Offers
 pub mod Freeing
 pub mod Logs
 pub mod Behind

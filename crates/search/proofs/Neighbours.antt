@@ -7,11 +7,12 @@ use Rattle.network.specs.Nets.{Ends, Net, Lawful, reversed, Graph, LawfulGraph}
 use Rattle.network.specs.Sides.{near}
 use Rattle.network.specs.Answers.{ends_answer}
 use Rattle.network.proofs.Lists.{nth_inside}
-use Rattle.network.proofs.Laws.{near_there}
+use Rattle.network.proofs.Laws.{near_there, near_reversed, far_reversed}
 use Rattle.trees.proofs.Places.{standing, Through, through_next}
 use Rattle.std.specs.Iterator.{MakesProgress}
 use Rattle.search.specs.declared.reading.Neighbour.{Neighbour}
 use Rattle.search.specs.declared.reading.Neighbourhood.{Neighbourhood}
+use Rattle.search.specs.Adoptions.{Inward}
 use Rattle.search.specs.Readings.{Beside, placed_one, Stands, StepsOn, HasNode, places_left}
 
 -- what is told of the neighbour along an arc with these ends
@@ -28,6 +29,19 @@ beside v t u k a tail head reverse l there at answer =
     by : (t : Terminal) (e : Ends) → v.graph.ends a ≡ Some e → e.tail ≡ u → e.head ≡ head → e.reverse ≡ reverse → Beside v.graph t u k (told t a head reverse)
     by Source e is from heads backs = record { ends = e; out = is; back = backs; from = from; to = heads; place = at }
     by Sink e is from heads backs = record { ends = reversed a e; out = ap v.graph.ends (sym backs) ∙ l.graph.back a e is; back = refl; from = from; to = heads; place = at }
+
+-- the arc that leads back from a neighbour, as the tree grows from it
+pub beside_inward : {v : Net} {t : Terminal} {u k : ℕ} {h : Neighbour} → Lawful v → Beside v.graph t u k h → Inward v.graph t u h
+beside_inward {v = v} {t = t} {h = h} l b =
+    let a = h.outward in (
+      reversed a b.ends,
+      ap v.graph.ends (sym b.back) ∙ l.graph.back a b.ends b.out,
+      near_reversed t a b.ends ∙ b.to,
+      far_reversed t a b.ends ∙ b.from,
+    )
+
+pub inward_there : (v : Net) (t : Terminal) (u : ℕ) (h : Neighbour) → Lawful v → Inward v.graph t u h → h.node < v.graph.nodes
+inward_there v t u h l (e, is, from, to) = rw (← from) (near_there v.graph t h.inward e l.graph is)
 
 -- the arc that stands at the neighbour's place
 placed_standing : (g : Graph) (t : Terminal) (u k : ℕ) (h : Neighbour) (b : Beside g t u k h) → placed_one t h ≡ standing t h.outward b.ends

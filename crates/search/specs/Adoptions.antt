@@ -7,29 +7,19 @@ use Rattle.trees.specs.declared.lane.Lane.TheVariants.{Waiting}
 use Rattle.trees.specs.declared.work.Parent.TheVariants.{Orphan}
 use Rattle.trees.specs.declared.work.Work.{Work}
 use Rattle.trees.specs.Forests.{Forest, with_queued}
-use Rattle.trees.specs.Trees.{Anchored, is_of}
+use Rattle.trees.specs.Trees.{is_of}
 use Rattle.trees.specs.Surveys.{Offered}
 use Rattle.trees.specs.Carryings.{disowned}
-use Rattle.search.specs.declared.adoption.Offer.{Offer}
 use Rattle.search.specs.declared.reading.Neighbour.{Neighbour}
-
--- a node has a distance only if it hangs from its terminal
-abbrev pub Measured : Graph → Forest → Terminal → ℕ → Option ℕ → Type 0
-Measured g f t u None = Unit {0}
-Measured g f t u (Some _) = Anchored g f.parent t u
 
 -- the arc from a neighbour to u, as the tree of t grows
 abbrev pub Inward : Graph → Terminal → ℕ → Neighbour → Type 0
 Inward g t u h = (e : Ends) × (g.ends h.inward ≡ Some e) × (near t e ≡ h.node) × (far t e ≡ u)
 
--- a neighbour that offers itself as a parent is one that can be taken
-abbrev pub Answered : Net → Forest → Terminal → ℕ → Neighbour → Option ℕ → Type 0
-Answered v f t u h None = Unit {0}
-Answered v f t u h (Some _) = Offered v f t u h.inward h.node
-
-abbrev pub Found : Net → Forest → Terminal → ℕ → Option Offer → Type 0
+-- a neighbour that is found is a parent that u can take
+abbrev pub Found : Net → Forest → Terminal → ℕ → Option Neighbour → Type 0
 Found v f t u None = Unit {0}
-Found v f t u (Some o) = Offered v f t u o.parent.inward o.parent.node
+Found v f t u (Some h) = Offered v f t u h.inward h.node
 
 -- the tree of an orphan
 abbrev pub OrphanOf : Work → Option Terminal → Type 0

@@ -1,35 +1,18 @@
 // Adoption: each node that has lost its parent finds another one in its tree, or becomes free.
-ghost use Rattle.std.specs.Prelude.{◌≡◌, ◌+◌, ◌<◌, ◌≤◌, ◌⊎◌, Some};
+ghost use Rattle.std.specs.Prelude.{◌≡◌, ◌+◌, ◌<◌, ◌≤◌, true, Some};
 ghost use Rattle.trees.specs.declared.lane.Lane.TheVariants.{Orphans};
 ghost use Rattle.trees.specs.declared.work.Parent.TheVariants.{Orphan};
 ghost use Rattle.trees.specs.Rings.{Empty};
 ghost use Rattle.trees.specs.Trees.{Anchored, Trees, adoption_left, There};
-ghost use Rattle.trees.specs.Surveys.{Survey, restaged, SurveyKept, StagesBelow};
+ghost use Rattle.trees.specs.Surveys.{Survey, Offered, restaged, SurveyKept, StagesBelow};
 ghost use Rattle.trees.specs.Searches.{TreesBut};
-ghost use Rattle.search.specs.Adoptions.{Measured, Inward, Answered, Found, woken, released, OrphanOf};
+ghost use Rattle.search.specs.Adoptions.{Inward, Found, woken, released, OrphanOf};
 ghost use Rattle.search.specs.Tables.{forest_of};
 
 use super::reading::{Neighbour, neighbours, residual};
 use super::table::{Table, hanging};
 use network::{Network, Terminal};
 use trees::{Lane, Parent, Work};
-
-// A parent that an orphan could take, and how far it is from the terminal.
-#[derive(Clone, Copy, PartialEq, Eq, Debug)]
-pub(crate) struct Offer {
-    pub(crate) parent: Neighbour,
-    pub(crate) distance: usize,
-}
-
-// The nearer of two parents; the first if both are as near. No `min_by_key` over the neighbours, which was tried: asking one writes to
-// the table, and a proof does not know afterwards what a closure wrote.
-fn nearer(best: Option<Offer>, other: Offer) -> Offer
-    ensures one { (Some result ≡ best) ⊎ (result ≡ other) }
-    ensures nearest { (result.distance ≤ other.distance) × ((o : Offer) → best ≡ Some o → result.distance ≤ o.distance) }
-{
-    best.filter(|offer| offer.distance <= other.distance)
-        .unwrap_or(other)
-}
 
 // The adoption of an orphan of the terminal's tree, in a stage that tells which nodes were seen to hang from their terminal since. What
 // it may rely on (`Survey`) is about the table as it is, which its functions change: with the table's loan in it, each would have to
@@ -42,31 +25,31 @@ struct Adoption<'a, N> {
 }
 
 impl<N: Network> Adoption<'_, N> {
-    // How far a node is from its terminal, if it hangs from it. A node that is known to do so in this stage ends the climb, and no climb
-    // has more steps than there are records.
-    fn distance_up(&self, table: &Table, node: usize) -> Option<usize>
+    // Whether a node hangs from its terminal. A node that is known to do so in this stage ends the climb, and no climb has more steps
+    // than there are records.
+    fn is_anchored(&self, table: &Table, node: usize) -> bool
         requires survey { Survey (N.Network.value self.now.net.now) (forest_of table.now) self.now.stage }
         requires there { node < (N.Network.value self.now.net.now).graph.nodes }
         requires mine { (forest_of table.now).tree node ≡ Some self.now.terminal }
-        ensures { Measured (N.Network.value self.now.net.now).graph (forest_of table.now) self.now.terminal node result }
+        ensures { result ≡ true → Anchored (N.Network.value self.now.net.now).graph (forest_of table.now).parent self.now.terminal node }
     {
         let mut at = node;
-        for steps in 0..table.records().len() {
+        for _ in 0..table.records().len() {
             let record = table.work(at);
             if record.stage == self.stage {
-                return Some(record.distance.saturating_add(steps));
+                return true;
             }
             match record.parent {
-                Parent::Orphan => return None,
-                Parent::Root => return Some(steps + 1),
+                Parent::Orphan => return false,
+                Parent::Root => return true,
                 Parent::Along { node: above, .. } => at = above as usize,
             }
         }
-        None
+        false
     }
 
     // Remembers for this stage that a node, and all from which it hangs, hang from their terminal.
-    fn remember(&self, table: &mut Table, node: usize, distance: usize)
+    fn remember(&self, table: &mut Table, node: usize)
         requires survey { Survey (N.Network.value self.now.net.now) (forest_of table.old) self.now.stage }
         requires there { node < (N.Network.value self.now.net.now).graph.nodes }
         requires mine { (forest_of table.old).tree node ≡ Some self.now.terminal }
@@ -75,12 +58,12 @@ impl<N: Network> Adoption<'_, N> {
         ensures trees { forest_of table.new ≡ restaged (forest_of table.old) (forest_of table.new).stage }
     {
         let mut at = node;
-        for steps in 0..table.records().len() {
+        for _ in 0..table.records().len() {
             let record = *table.work(at);
             if record.stage == self.stage {
                 return;
             }
-            table.set_stage(at, self.stage, distance.saturating_sub(steps));
+            table.set_stage(at, self.stage);
             let Parent::Along { node: above, .. } = record.parent else {
                 return;
             };
@@ -88,41 +71,29 @@ impl<N: Network> Adoption<'_, N> {
         }
     }
 
-    // How far a neighbour of an orphan is from the terminal, if the orphan can hang from it.
-    fn ask(&self, table: &mut Table, node: usize, next: Neighbour) -> Option<usize>
-        requires survey { Survey (N.Network.value self.now.net.now) (forest_of table.old) self.now.stage }
+    // Whether an orphan can hang from a neighbour.
+    fn can_take(&self, table: &Table, node: usize, next: Neighbour) -> bool
+        requires survey { Survey (N.Network.value self.now.net.now) (forest_of table.now) self.now.stage }
         requires inward { Inward (N.Network.value self.now.net.now).graph self.now.terminal node next }
-        ensures answer { Answered (N.Network.value self.now.net.now) (forest_of table.new) self.now.terminal node next result }
-        ensures survey { Survey (N.Network.value self.now.net.now) (forest_of table.new) self.now.stage }
-        ensures trees { forest_of table.new ≡ restaged (forest_of table.old) (forest_of table.new).stage }
+        ensures { result ≡ true → Offered (N.Network.value self.now.net.now) (forest_of table.now) self.now.terminal node next.inward next.node }
     {
-        if residual(self.net, next.inward) == 0 || !table.is_in(next.node, self.terminal) {
-            return None;
-        }
-        let distance = self.distance_up(table, next.node)?;
-        self.remember(table, next.node, distance);
-        Some(distance)
+        table.is_in(next.node, self.terminal)
+            && residual(self.net, next.inward) > 0
+            && self.is_anchored(table, next.node)
     }
 
-    // The parent nearest to the terminal that an orphan can take.
-    fn find_parent(&self, table: &mut Table, node: usize) -> Option<Offer>
-        requires survey { Survey (N.Network.value self.now.net.now) (forest_of table.old) self.now.stage }
+    // The first neighbour that an orphan can take as its parent.
+    fn find_parent(&self, table: &Table, node: usize) -> Option<Neighbour>
+        requires survey { Survey (N.Network.value self.now.net.now) (forest_of table.now) self.now.stage }
         requires there { node < (N.Network.value self.now.net.now).graph.nodes }
-        ensures found { Found (N.Network.value self.now.net.now) (forest_of table.new) self.now.terminal node result }
-        ensures survey { Survey (N.Network.value self.now.net.now) (forest_of table.new) self.now.stage }
-        ensures trees { forest_of table.new ≡ restaged (forest_of table.old) (forest_of table.new).stage }
+        ensures { Found (N.Network.value self.now.net.now) (forest_of table.now) self.now.terminal node result }
     {
-        let mut best = None;
         for next in neighbours(self.net, self.terminal, node) {
-            if let Some(distance) = self.ask(table, node, next) {
-                let offer = Offer {
-                    parent: next,
-                    distance,
-                };
-                best = Some(nearer(best, offer));
+            if self.can_take(table, node, next) {
+                return Some(next);
             }
         }
-        best
+        None
     }
 
     // Frees an orphan: its children become orphans, and those from which its tree could take it again wait.
@@ -176,9 +147,9 @@ impl<N: Network> Adoption<'_, N> {
         ensures left { adoption_left (N.Network.value self.now.net.now).graph.nodes (forest_of table.new) ≤ adoption_left (N.Network.value self.now.net.now).graph.nodes (forest_of table.old) }
     {
         match self.find_parent(table, node) {
-            Some(offer) => {
-                table.set_parent(node, hanging(offer.parent.inward, offer.parent.node));
-                table.set_stage(node, self.stage, offer.distance.saturating_add(1));
+            Some(parent) => {
+                table.set_parent(node, hanging(parent.inward, parent.node));
+                self.remember(table, node);
             }
             None => self.free(table, node),
         }

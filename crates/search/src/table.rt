@@ -81,18 +81,12 @@ impl<'a> Table<'a> {
         self.work[node].parent = parent;
     }
 
-    // Remembers that a node hangs from its terminal in this stage of adoption, and how far from it. It is one write: after each of two
-    // the queues would have to be vouched for.
-    pub(crate) fn set_stage(&mut self, node: usize, stage: u64, distance: usize)
+    // Remembers that a node hangs from its terminal in this stage of adoption.
+    pub(crate) fn set_stage(&mut self, node: usize, stage: u64)
         requires { node < (forest_of self.old).size }
         ensures { forest_of self.new ≡ with_stage (forest_of self.old) node stage }
     {
-        let record = self.work[node];
-        self.work[node] = Work {
-            stage,
-            distance,
-            ..record
-        };
+        self.work[node].stage = stage;
     }
 
     // Puts a node into a queue, behind the last; nothing if it is there already.

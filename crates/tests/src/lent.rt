@@ -17,7 +17,6 @@ pub(crate) fn old_record() -> Work {
             orphans: OLD_PLACE,
         },
         stage: OLD,
-        distance: OLD as usize,
         ..Work::blank()
     }
 }
@@ -34,7 +33,6 @@ pub(crate) fn kept_from(
 ) {
     for i in record..work.len() {
         assert_eq!(rt; work[i].stage, OLD);
-        assert_eq!(rt; work[i].distance, OLD as usize);
         assert_eq!(rt; work[i].slots.waiting, OLD_PLACE);
         assert_eq!(rt; work[i].slots.orphans, OLD_PLACE);
     }

@@ -33,22 +33,22 @@ same_forest f g sizes same = λ i. record {
     queued Waiting k = ap (λ x. x.2.0) (same k)
     queued Orphans k = ap (λ x. x.2.1) (same k)
 
--- w with another tree, with another parent, and with another stage and distance
+-- w with another tree, with another parent, and with another stage
 abbrev pub put_tree : Option Terminal → Work → Work
-put_tree t w = record { tree = t; parent = w.parent; queued = w.queued; slots = w.slots; stage = w.stage; distance = w.distance }
+put_tree t w = record { tree = t; parent = w.parent; queued = w.queued; slots = w.slots; stage = w.stage }
 
 abbrev pub put_parent : Parent → Work → Work
-put_parent p w = record { tree = w.tree; parent = p; queued = w.queued; slots = w.slots; stage = w.stage; distance = w.distance }
+put_parent p w = record { tree = w.tree; parent = p; queued = w.queued; slots = w.slots; stage = w.stage }
 
-abbrev pub put_stage : ℕ → ℕ → Work → Work
-put_stage s d w = record { tree = w.tree; parent = w.parent; queued = w.queued; slots = w.slots; stage = s; distance = d }
+abbrev pub put_stage : ℕ → Work → Work
+put_stage s w = record { tree = w.tree; parent = w.parent; queued = w.queued; slots = w.slots; stage = s }
 
 -- and with other marks, and with other nodes at its place
 abbrev pub put_queued : Lanes Bool → Work → Work
-put_queued q w = record { tree = w.tree; parent = w.parent; queued = q; slots = w.slots; stage = w.stage; distance = w.distance }
+put_queued q w = record { tree = w.tree; parent = w.parent; queued = q; slots = w.slots; stage = w.stage }
 
 abbrev pub put_slots : Lanes ℕ → Work → Work
-put_slots s w = record { tree = w.tree; parent = w.parent; queued = w.queued; slots = s; stage = w.stage; distance = w.distance }
+put_slots s w = record { tree = w.tree; parent = w.parent; queued = w.queued; slots = s; stage = w.stage }
 
 pub forest_tree : (ws : List Work) (u : ℕ) (t : Option Terminal) → u < length ws → forest (set ws u (put_tree t (work_at ws u))) ≡ with_tree (forest ws) u t
 forest_tree ws u t h = same_forest _ _ (length-set ws u _) (λ k. grind (arith, nat_tests, work_at_set ws u (put_tree t (work_at ws u)) k h))
@@ -56,8 +56,8 @@ forest_tree ws u t h = same_forest _ _ (length-set ws u _) (λ k. grind (arith, 
 pub forest_parent : (ws : List Work) (u : ℕ) (p : Parent) → u < length ws → forest (set ws u (put_parent p (work_at ws u))) ≡ with_parent (forest ws) u p
 forest_parent ws u p h = same_forest _ _ (length-set ws u _) (λ k. grind (arith, nat_tests, work_at_set ws u (put_parent p (work_at ws u)) k h))
 
-pub forest_stage : (ws : List Work) (u s d : ℕ) → u < length ws → forest (set ws u (put_stage s d (work_at ws u))) ≡ with_stage (forest ws) u s
-forest_stage ws u s d h = same_forest _ _ (length-set ws u _) (λ k. grind (arith, nat_tests, work_at_set ws u (put_stage s d (work_at ws u)) k h))
+pub forest_stage : (ws : List Work) (u s : ℕ) → u < length ws → forest (set ws u (put_stage s (work_at ws u))) ≡ with_stage (forest ws) u s
+forest_stage ws u s h = same_forest _ _ (length-set ws u _) (λ k. grind (arith, nat_tests, work_at_set ws u (put_stage s (work_at ws u)) k h))
 
 pub forest_queued : (ws : List Work) (u : ℕ) (l : Lane) (b : Bool) (q : Lanes Bool) → u < length ws → q ≡ put_lane l b (work_at ws u).queued → forest (set ws u (put_queued q (work_at ws u))) ≡ with_queued (forest ws) l u b
 forest_queued ws u Waiting b q h is = same_forest _ _ (length-set ws u _) (λ k. grind (arith, nat_tests, work_at_set ws u (put_queued q (work_at ws u)) k h))

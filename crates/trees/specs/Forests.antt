@@ -26,7 +26,7 @@ both x = record { waiting = x; orphans = x }
 
 -- the record of a node in no tree and no queue; past the end of a table too, where nothing reads it
 abbrev pub blank : Work
-blank = record { tree = None; parent = Orphan; queued = both false; slots = both 0; stage = 0; distance = 0 }
+blank = record { tree = None; parent = Orphan; queued = both false; slots = both 0; stage = 0 }
 
 abbrev pub work_at : List Work → ℕ → Work
 work_at ws u = slice_index_or ws u blank

@@ -40,9 +40,8 @@ pub struct Work {
     pub queued: Lanes<bool>,
     // the node that stands at this record's place in the ring of a queue
     pub slots: Lanes<u16>,
-    // what adoption found out about it: the stage in which it was last seen to hang from its terminal, and how far from it
+    // the stage of adoption in which it was last seen to hang from its terminal
     pub stage: u64,
-    pub distance: usize,
 }
 
 impl Work {

@@ -2,8 +2,7 @@ use Rattle.std.proofs.Common.{arith, ap, ◌+◌}
 use Rattle.trees.specs.Trees.{adoption_left}
 use Rattle.trees.proofs.Efforts.{adoption_freed}
 use Rattle.search.specs.Tables.{forest_of}
-use Rattle.search.proofs.Neighbours.{met, past_last}
-use Rattle.search.proofs.Offers.{beside_inward, inward_there}
+use Rattle.search.proofs.Neighbours.{met, past_last, beside_inward, inward_there}
 use Rattle.search.proofs.Freeing.{freeing_after, freeing_ends}
 use Rattle.search.proofs.adoption.Adoption.free.Goals as goal
 

@@ -4,10 +4,10 @@ use Rattle.trees.proofs.Queueing.{sound_is}
 use Rattle.search.proofs.table.Table.set_stage.Goals as goal
 
 pub invariant_of-self-clause-kept : goal.invariant_of-self-clause-kept
-invariant_of-self-clause-kept c = sound_is (forest_stage _ _ _ _ c.requires) (slots_same _ _ _ c.requires refl) refl c.args.self.now.kept
+invariant_of-self-clause-kept c = sound_is (forest_stage _ _ _ c.requires) (slots_same _ _ _ c.requires refl) refl c.args.self.now.kept
 
 pub invariant_of-self-clause-few : goal.invariant_of-self-clause-few
 invariant_of-self-clause-few c = few_kept _ _ _ c.args.self.now.few
 
 pub returns : goal.returns
-returns c = forest_stage _ _ _ _ c.requires
+returns c = forest_stage _ _ _ c.requires
