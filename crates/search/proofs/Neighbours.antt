@@ -1,13 +1,15 @@
 -- A node's neighbours, one place after another.
-use Rattle.std.proofs.Common.{◌≡◌, ℕ, ◌+◌, ◌^◌, ◌<◌, Some, None, Ok, sym, refl, ap, ◌∙◌, arith}
+use Rattle.std.proofs.Common.{◌≡◌, ℕ, ◌+◌, ◌^◌, ◌<◌, Some, None, Option, length, sym, refl, ap, ◌∙◌, arith}
 use Rattle.std.specs.List.{slice_get}
+use Rattle.std.specs.Option.{option_map}
 use Rattle.network.specs.declared.terminal.Terminal.{Terminal}
 use Rattle.network.specs.declared.terminal.Terminal.TheVariants.{Source, Sink}
 use Rattle.network.specs.Nets.{Ends, Net, Lawful, reversed, Graph, LawfulGraph}
 use Rattle.network.specs.Sides.{near}
-use Rattle.network.specs.Answers.{ends_answer}
+use Rattle.network.specs.declared.arc.Arc.{Arc}
+use Rattle.network.specs.Answers.{whole}
 use Rattle.network.proofs.Lists.{nth_inside}
-use Rattle.network.proofs.Laws.{near_there, near_reversed, far_reversed}
+use Rattle.network.proofs.Laws.{one_ends, near_there, near_reversed, far_reversed}
 use Rattle.trees.proofs.Places.{standing, Through, through_next}
 use Rattle.std.specs.Iterator.{MakesProgress}
 use Rattle.search.specs.declared.reading.Neighbour.{Neighbour}
@@ -15,20 +17,33 @@ use Rattle.search.specs.declared.reading.Neighbourhood.{Neighbourhood}
 use Rattle.search.specs.Adoptions.{Inward}
 use Rattle.search.specs.Readings.{Beside, placed_one, Stands, StepsOn, HasNode, places_left}
 
--- what is told of the neighbour along an arc with these ends
-abbrev pub told : Terminal → ℕ → ℕ → ℕ → Neighbour
-told Source a head reverse = record { node = head; outward = a; inward = reverse }
-told Sink a head reverse = record { node = head; outward = reverse; inward = a }
-
-pub beside : (v : Net) (t : Terminal) (u k a tail head reverse : ℕ) → Lawful v → u < v.graph.nodes → slice_get (v.graph.arcs u) k ≡ Some a → ends_answer v a ≡ Ok (tail, head, reverse) → Beside v.graph t u k (told t a head reverse)
-beside v t u k a tail head reverse l there at answer =
-    let (e, is, from) = l.graph.own u k a there at in
-    let same : (e.tail, e.head, e.reverse) ≡ (tail, head, reverse) = cc in
-    by t e is from (ap (λ (x : ℕ × ℕ × ℕ). x.1) same) (ap (λ (x : ℕ × ℕ × ℕ). x.2) same)
+-- what an arc that is told at a place says of the graph
+pub told_there : (g : Graph) (placed : Option ℕ) (h : Arc) → whole g placed ≡ Some h → (placed ≡ Some h.code) × (e : Ends) × (g.ends h.code ≡ Some e) × (e.head ≡ h.head) × (e.reverse ≡ h.reverse)
+told_there g None h is = cc
+told_there g (Some a) h is = by (g.ends a) refl is
   where
-    by : (t : Terminal) (e : Ends) → v.graph.ends a ≡ Some e → e.tail ≡ u → e.head ≡ head → e.reverse ≡ reverse → Beside v.graph t u k (told t a head reverse)
-    by Source e is from heads backs = record { ends = e; out = is; back = backs; from = from; to = heads; place = at }
-    by Sink e is from heads backs = record { ends = reversed a e; out = ap v.graph.ends (sym backs) ∙ l.graph.back a e is; back = refl; from = from; to = heads; place = at }
+    by : (o : Option Ends) → g.ends a ≡ o → option_map (λ (e : Ends). record { code = a; head = e.head; reverse = e.reverse }) o ≡ Some h → (Some a ≡ Some h.code) × (e : Ends) × (g.ends h.code ≡ Some e) × (e.head ≡ h.head) × (e.reverse ≡ h.reverse)
+    by None at same = cc
+    by (Some e) at same =
+        let arc : record { code = a; head = e.head; reverse = e.reverse } ≡ h = cc in
+        let code : a ≡ h.code = ap (λ (x : Arc). x.code) arc in
+        (ap (λ x. Some x) code, e, ap g.ends (sym code) ∙ at, ap (λ (x : Arc). x.head) arc, ap (λ (x : Arc). x.reverse) arc)
+
+-- the neighbour that it leads to
+abbrev pub met_by : Terminal → Arc → Neighbour
+met_by Source h = record { node = h.head; outward = h.code; inward = h.reverse }
+met_by Sink h = record { node = h.head; outward = h.reverse; inward = h.code }
+
+pub beside : (v : Net) (t : Terminal) (u k : ℕ) (h : Arc) → Lawful v → u < v.graph.nodes → whole v.graph (slice_get (v.graph.arcs u) k) ≡ Some h → Beside v.graph t u k (met_by t h)
+beside v t u k h l there told =
+    let (at, d, is, heads, backs) = told_there v.graph (slice_get (v.graph.arcs u) k) h told in
+    let (e, own, from) = l.graph.own u k h.code there at in
+    let same : e ≡ d = one_ends v.graph h.code e d own is in
+    by t d is (rw (← same) from) heads backs at
+  where
+    by : (t : Terminal) (e : Ends) → v.graph.ends h.code ≡ Some e → e.tail ≡ u → e.head ≡ h.head → e.reverse ≡ h.reverse → slice_get (v.graph.arcs u) k ≡ Some h.code → Beside v.graph t u k (met_by t h)
+    by Source e is from heads backs at = record { ends = e; out = is; back = backs; from = from; to = heads; place = at }
+    by Sink e is from heads backs at = record { ends = reversed h.code e; out = ap v.graph.ends (sym backs) ∙ l.graph.back h.code e is; back = refl; from = from; to = heads; place = at }
 
 -- the arc that leads back from a neighbour, as the tree grows from it
 pub beside_inward : {v : Net} {t : Terminal} {u k : ℕ} {h : Neighbour} → Lawful v → Beside v.graph t u k h → Inward v.graph t u h
@@ -66,8 +81,12 @@ met value at (b, on) = (
 pub past_last : {N : Type 0} (value : N → Net) {w : N} {t : Terminal} {u k : ℕ} {s s' : Neighbourhood N} → Stands w t u k s → StepsOn value s None s' → slice_get ((value w).graph.arcs u) k ≡ None
 past_last value at (past, _) = rw (← at.net, ← at.node, ← at.place) past
 
+-- an arc stands at its place
+pub place_inside : (v : Net) (u k : ℕ) (h : Arc) → whole v.graph (slice_get (v.graph.arcs u) k) ≡ Some h → k < length (v.graph.arcs u)
+place_inside v u k h told = nth_inside (v.graph.arcs u) k h.code (told_there v.graph (slice_get (v.graph.arcs u) k) h told).0
+
 -- a neighbour that was told: fewer places are left
-pub goes_on : {N : Type 0} (value : N → Net) (s : Neighbourhood N) (h : Neighbour) (a : ℕ) → HasNode value s → slice_get ((value s.net.now).graph.arcs s.node) s.place ≡ Some a → MakesProgress (HasNode value) (places_left value) s (Some h) (record { net = s.net; terminal = s.terminal; node = s.node; place = s.place + 1 })
-goes_on value s h a there at =
-    let inside = nth_inside ((value s.net.now).graph.arcs s.node) s.place a at in
+pub goes_on : {N : Type 0} (value : N → Net) (s : Neighbourhood N) (h : Neighbour) (a : Arc) → HasNode value s → whole (value s.net.now).graph (slice_get ((value s.net.now).graph.arcs s.node) s.place) ≡ Some a → MakesProgress (HasNode value) (places_left value) s (Some h) (record { net = s.net; terminal = s.terminal; node = s.node; place = s.place + 1 })
+goes_on value s h a there told =
+    let inside = place_inside (value s.net.now) s.node s.place a told in
     record { on = λ _. (there, tt, omega arith); keeps = there; rests = λ _. tt }

@@ -52,15 +52,14 @@ impl<'a, N: Network> Iterator for Neighbourhood<'a, N> {
     ghost remaining = { places_left N.Network.value };
 
     fn next(&mut self) -> Option<Neighbour> {
-        let arc = self.net.arc_at(self.node, self.place).ok()??;
-        let (_, head, reverse) = self.net.arc_ends(arc).ok()?;
+        let arc = self.net.whole_arc_at(self.node, self.place).unwrap()?;
         self.place += 1;
         let (outward, inward) = match self.terminal {
-            Terminal::Source => (arc, reverse),
-            Terminal::Sink => (reverse, arc),
+            Terminal::Source => (arc.code, arc.reverse),
+            Terminal::Sink => (arc.reverse, arc.code),
         };
         Some(Neighbour {
-            node: head,
+            node: arc.head,
             outward,
             inward,
         })
