@@ -16,8 +16,9 @@ use Rattle.trees.proofs.Places.{Through, through_all}
 use Rattle.trees.proofs.Efforts.{growth_joined}
 use Rattle.trees.proofs.Changes.{join_trees, sleep_trees, requeue_trees}
 use Rattle.search.specs.declared.reading.Neighbour.{Neighbour}
-use Rattle.search.specs.Readings.{Beside}
-use Rattle.search.proofs.Neighbours.{through_more}
+use Rattle.search.specs.declared.reading.Neighbourhood.{Neighbourhood}
+use Rattle.search.specs.Readings.{Beside, Stands, StepsOn}
+use Rattle.search.proofs.Neighbours.{met, through_more}
 
 -- nothing can be sent along the arc out of the tree of t
 abbrev pub Inside : Net → Forest → Terminal → ℕ → Ends → Type 0
@@ -31,9 +32,10 @@ pub record Scanning (v : Net) (t : Terminal) (u k : ℕ) (before f : Forest) : T
   pub seen : Through v.graph t u k (Inside v f t)
 
 -- a neighbour has a record
-pub scanning_there : {v : Net} {t : Terminal} {u k : ℕ} {before f : Forest} {h : Neighbour} → Lawful v → Scanning v t u k before f → Beside v.graph t u k h → h.node < f.size
-scanning_there {v = v} {t = t} {h = h} l s b =
-    omega (arith, b.to, s.trees.size, far_there v.graph t h.outward b.ends l.graph b.out)
+pub scanning_there : {N : Type 0} (value : N → Net) {w : N} {t : Terminal} {u : ℕ} {before f : Forest} {s s' : Neighbourhood N} {h : Neighbour} → Lawful (value w) → (k : ℕ) × Stands w t u k s × Scanning (value w) t u k before f → StepsOn value s (Some h) s' → h.node < f.size
+scanning_there value {w = w} {t = t} {h = h} l (k, stands, so_far) steps =
+    let (b, _) = met value stands steps in
+    omega (arith, b.to, so_far.trees.size, far_there (value w).graph t h.outward b.ends l.graph b.out)
 
 -- an arc that leads nowhere new
 pub scanning_more : {v : Net} {t : Terminal} {u k : ℕ} {before f : Forest} {h : Neighbour} → Lawful v → Scanning v t u k before f → Beside v.graph t u k h → (0 < v.residual h.outward → f.tree h.node ≡ Some t) → Scanning v t u (k + 1) before f

@@ -26,10 +26,9 @@ pub(crate) fn scan<N: Network>(
     ensures left { growth_left (N.Network.value net.now).graph.nodes (forest_of table.new) ≤ growth_left (N.Network.value net.now).graph.nodes (forest_of table.old) }
 {
     for next in neighbours(net, terminal, node) {
-        if residual(net, next.outward) > 0 {
+        if !table.is_in(next.node, terminal) && residual(net, next.outward) > 0 {
             match table.work(next.node).tree {
                 None => table.join(terminal, next.node, hanging(next.outward, node)),
-                Some(same) if same == terminal => {}
                 Some(_) => return Some(next.outward),
             }
         }

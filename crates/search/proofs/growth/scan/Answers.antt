@@ -1,12 +1,13 @@
-use Rattle.std.proofs.Common.{◌+◌, arith, rules}
+use Rattle.std.proofs.Common.{◌+◌, arith}
 use Rattle.search.proofs.Neighbours.{met, past_last, few_numbers}
-use Rattle.search.proofs.Scanning.{scanning_there, scanning_more, scanning_grown, scanning_ends}
+use Rattle.search.proofs.Scanning.{scanning_there, scanning_grown, scanning_ends}
 use Rattle.search.proofs.growth.scan.Goals as goal
 
+pub is_in-requires : goal.is_in-requires
+is_in-requires g c = scanning_there g.N.Network.value (g.N.Network.lawful c.args.net.now) c.loop-next.invariant c.in-Some.ensures.steps
+
 pub work-requires : goal.work-requires
-work-requires g c =
-    let (k, stands, s) = c.loop-next.invariant in
-    scanning_there (g.N.Network.lawful c.args.net.now) s (met g.N.Network.value stands c.in-Some.ensures.steps).0
+work-requires g c = scanning_there g.N.Network.value (g.N.Network.lawful c.args.net.now) c.loop-next.invariant c.in-Some.ensures.steps
 
 pub hanging-requires : goal.hanging-requires
 hanging-requires g c =
@@ -16,21 +17,13 @@ hanging-requires g c =
     record { arc = arc; node = rw (← b.from) node }
 
 pub join-requires : goal.join-requires
-join-requires g c =
-    let (k, stands, s) = c.loop-next.invariant in
-    scanning_there (g.N.Network.lawful c.args.net.now) s (met g.N.Network.value stands c.in-Some.ensures.steps).0
+join-requires g c = scanning_there g.N.Network.value (g.N.Network.lawful c.args.net.now) c.loop-next.invariant c.in-Some.ensures.steps
 
-pub loop-next-preserved-in-None-tree : goal.loop-next-preserved-in-None-tree
-loop-next-preserved-in-None-tree g c =
+pub loop-next-preserved-then-residual-gt0 : goal.loop-next-preserved-then-residual-gt0
+loop-next-preserved-then-residual-gt0 g c =
     let (k, stands, s) = c.loop-next.invariant in
     let (beside, on) = met g.N.Network.value stands c.in-Some.ensures.steps in
     (k + 1, on, scanning_grown (g.N.Network.lawful c.args.net.now) s beside (omega arith) (cc) (rw c.hanging.ensures at c.join.ensures))
-
-pub loop-next-preserved-then-eq : goal.loop-next-preserved-then-eq
-loop-next-preserved-then-eq g c =
-    let (k, stands, s) = c.loop-next.invariant in
-    let (beside, on) = met g.N.Network.value stands c.in-Some.ensures.steps in
-    (k + 1, on, scanning_more (g.N.Network.lawful c.args.net.now) s beside (λ _. search rules))
 
 pub returns-clause-trees : goal.returns-clause-trees
 returns-clause-trees g c =
