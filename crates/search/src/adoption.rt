@@ -72,6 +72,7 @@ impl<N: Network> Adoption<'_, N> {
     }
 
     // Whether an orphan can hang from a neighbour.
+    #[inline(always)]
     fn can_take(&self, table: &Table, node: usize, next: Neighbour) -> bool
         requires survey { Survey (N.Network.value self.now.net.now) (forest_of table.now) self.now.stage }
         requires inward { Inward (N.Network.value self.now.net.now).graph self.now.terminal node next }
@@ -113,6 +114,7 @@ impl<N: Network> Adoption<'_, N> {
     }
 
     // Lets a neighbour wait, if something can be sent from it.
+    #[inline(always)]
     fn wake(&self, table: &mut Table, next: Neighbour)
         requires there { There (N.Network.value self.now.net.now).graph next.inward }
         requires inside { next.node < (forest_of table.old).size }
@@ -124,6 +126,7 @@ impl<N: Network> Adoption<'_, N> {
     }
 
     // Lets go of a neighbour of a node that is about to be free.
+    #[inline(always)]
     fn release(&self, table: &mut Table, next: Neighbour)
         requires there { There (N.Network.value self.now.net.now).graph next.inward }
         requires inside { next.node < (forest_of table.old).size }

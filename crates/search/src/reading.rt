@@ -27,6 +27,7 @@ pub(crate) struct Neighbourhood<'a, N> {
 
 // The neighbours of a node from its first place on. A terminal and a node stay two values, here and elsewhere: many calls ask one node
 // of both terminals.
+#[inline(always)]
 pub(crate) fn neighbours<N: Network>(
     net: &N,
     terminal: Terminal,
@@ -51,6 +52,7 @@ impl<'a, N: Network> Iterator for Neighbourhood<'a, N> {
 
     ghost remaining = { places_left N.Network.value };
 
+    #[inline(always)]
     fn next(&mut self) -> Option<Neighbour> {
         let arc = self.net.whole_arc_at(self.node, self.place).unwrap()?;
         self.place += 1;
@@ -67,6 +69,7 @@ impl<'a, N: Network> Iterator for Neighbourhood<'a, N> {
 }
 
 // What can still be sent along an arc. That it is there is a fact about the network's value, which no type of a number could hold.
+#[inline(always)]
 pub(crate) fn residual<N: Network>(net: &N, arc: usize) -> u64
     requires { There (N.Network.value net.now).graph arc }
     ensures { result ≡ (N.Network.value net.now).residual arc }
@@ -75,6 +78,7 @@ pub(crate) fn residual<N: Network>(net: &N, arc: usize) -> u64
 }
 
 // The end of an arc that is nearer to the terminal.
+#[inline(always)]
 pub(crate) fn near_end<N: Network>(net: &N, terminal: Terminal, arc: usize) -> usize
     requires { There (N.Network.value net.now).graph arc }
     ensures { result ≡ near terminal (ends_of (N.Network.value net.now).graph arc) }

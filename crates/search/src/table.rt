@@ -50,6 +50,7 @@ impl<'a> Table<'a> {
     }
 
     // The record of a node.
+    #[inline(always)]
     pub(crate) fn work(&self, node: usize) -> &Work
         requires { node < (forest_of self.now).size }
         ensures { result.now ≡ record_of self.now node }
@@ -58,6 +59,7 @@ impl<'a> Table<'a> {
     }
 
     // Whether a node is in the tree of a terminal.
+    #[inline(always)]
     pub(crate) fn is_in(&self, node: usize, terminal: Terminal) -> bool
         requires { node < (forest_of self.now).size }
         ensures { result ≡ is_of ((forest_of self.now).tree node) terminal }
@@ -90,6 +92,7 @@ impl<'a> Table<'a> {
     }
 
     // Puts a node into a queue, behind the last; nothing if it is there already.
+    #[inline(always)]
     pub(crate) fn put(&mut self, lane: Lane, node: usize)
         requires { node < (forest_of self.old).size }
         ensures { forest_of self.new ≡ with_queued (forest_of self.old) lane node true }
@@ -108,6 +111,7 @@ impl<'a> Table<'a> {
     }
 
     // Takes the first node out of a queue; none if the queue is empty.
+    #[inline(always)]
     pub(crate) fn pick(&mut self, lane: Lane) -> Option<usize>
         ensures { Picked lane (forest_of self.old) (forest_of self.new) result }
     {
@@ -157,6 +161,7 @@ impl<'a> Table<'a> {
 }
 
 // Where a node hangs that hangs from another, by the arc between them. A network has few enough of both that a record holds any.
+#[inline(always)]
 pub(crate) fn hanging(arc: usize, node: usize) -> Parent
     requires arc { arc < 2 ^ 16 }
     requires node { node < 2 ^ 16 }
@@ -169,6 +174,7 @@ pub(crate) fn hanging(arc: usize, node: usize) -> Parent
 }
 
 // The place of a ring that lies some steps after its first; the place after the table's last record is the first.
+#[inline(always)]
 fn place_after(size: usize, head: usize, steps: usize) -> usize
     requires { head ≤ size }
     ensures { result ≡ wrap size (head + steps) }

@@ -50,6 +50,7 @@ pub(crate) struct Tracer<'a, 't, N> {
 
 impl<N: Network> Tracer<'_, '_, N> {
     // The step up from a node of the terminal's tree; none from a child of the terminal.
+    #[inline(always)]
     fn step_up(&self, terminal: Terminal, node: usize) -> Option<Hop>
         requires trees { Settled (N.Network.value self.now.net.now) (forest_of self.now.table.now) }
         requires there { node < (N.Network.value self.now.net.now).graph.nodes }
