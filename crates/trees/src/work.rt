@@ -14,12 +14,12 @@ pub enum Parent {
     Orphan,
     // from the terminal itself
     Root,
-    // from another node, the near end of the arc
+    // from another node, by the arc between them
     Along { arc: u16, node: u16 },
 }
 
 impl Parent {
-    // Whether it is another node, from which the arc leads.
+    // Whether a node hangs from another by this arc.
     pub fn is_along(self, arc: usize) -> bool
         ensures { result ≡ is_along self arc }
     {
