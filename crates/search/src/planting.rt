@@ -13,14 +13,19 @@ use super::table::Table;
 use network::{Network, Terminal};
 use trees::Parent;
 
-// The terminal at which a node has a residual; the source, if it has one at both.
+// The terminal at which a node has a residual; the source, if it has one at both. No `find` over the two terminals: every node is asked, and
+// an array would be written for each.
 fn root_tree<N: Network>(net: &N, node: usize) -> Option<Terminal>
     requires { node < (N.Network.value net.now).graph.nodes }
     ensures { result ≡ root_tree (N.Network.value net.now) node }
 {
-    [Terminal::Source, Terminal::Sink]
-        .into_iter()
-        .find(|terminal| terminal_residual(net, *terminal, node) > 0)
+    if terminal_residual(net, Terminal::Source, node) > 0 {
+        Some(Terminal::Source)
+    } else if terminal_residual(net, Terminal::Sink, node) > 0 {
+        Some(Terminal::Sink)
+    } else {
+        None
+    }
 }
 
 // Puts every node with a residual at a terminal into that terminal's tree; it waits for its arcs to be looked at.
