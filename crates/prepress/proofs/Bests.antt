@@ -1,5 +1,5 @@
 -- The marks of the cheapest selections of a tile tell the best split of the area that it is laid from.
-use Rattle.std.proofs.Common.{◌≡◌, ℕ, ◌*◌, ◌<◌, ◌≤◌, Bool, true, false, cond, ◌&&◌, List, length, get_or, Some, None, Option, Ok, Err, Result, refl, sym, ◌∙◌, subst, arith}
+use Rattle.std.proofs.Common.{◌≡◌, ℕ, ◌+◌, ◌*◌, ◌<◌, ◌≤◌, Bool, true, false, List, length, get_or, Some, None, Option, Ok, Err, Result, refl, sym, ◌∙◌, subst, arith}
 use Rattle.std.specs.Result.{IsOk}
 use Rattle.std.proofs.lemmas.Bool.{cases_Bool}
 use Rattle.std.proofs.lemmas.Option.{slice_get-get_or}
@@ -11,9 +11,10 @@ use Rattle.network.specs.Theorems.{inside}
 use Rattle.network.proofs.Marking.{marked_cheapest}
 use Rattle.network.proofs.Sums.{sum_zero, sum_at_most}
 use Rattle.tile.specs.Grids.{joined}
+use Rattle.tile.specs.declared.direction.Direction.TheVariants.{Right, Below}
 use Rattle.tile.specs.declared.refusal.LayRefusal.{LayRefusal}
 use Rattle.tile.specs.Calls.{State, LaidOn, lay_refused, Laid}
-use Rattle.tile.specs.Tiles.{penalty, line, tile_network, energy, differ}
+use Rattle.tile.specs.Tiles.{line, tile_network, energy, paid}
 use Rattle.netpbm.specs.Images.{Image}
 use Rattle.prepress.specs.declared.area.Area.{Area}
 use Rattle.prepress.specs.Areas.{OnPage, pixel_count}
@@ -50,7 +51,7 @@ lines_cheapest v marks l all =
 all_lines : (w h : ℕ) (bs : List ℕ) → Bytes bs → energy w h bs (λ _. true) ≤ 255 * (w * h)
 all_lines w h bs bytes =
     let most = sum_at_most (w * h) 255 (λ v. line bs v) (λ v _. omega (arith, bytes (4 * v))) in
-    let none = sum_zero (2 * (w * h)) (λ p. cond (joined w (w * h) p && differ true true) (penalty bs p) 0) (λ p _. grind (arith, cases_Bool (joined w (w * h) p))) in
+    let none = sum_zero (w * h) (λ v. paid w (w * h) bs (λ _. true) Right v + paid w (w * h) bs (λ _. true) Below v) (λ v _. grind (arith, cases_Bool (joined w (w * h) Right v), cases_Bool (joined w (w * h) Below v))) in
     omega arith
 
 area_cut : (i : Image) (a : Area) (c : ℕ) (marks : List Mark) → Lawful (network_of i a) → ((X : Selection) → cost (network_of i a) X ≡ area_energy i a X) → Bytes (area_costs i a) → CheapestCost (network_of i a) c → AllMarked (network_of i a) marks → AreaCut i a c marks

@@ -2,13 +2,12 @@
 use Rattle.std.proofs.Common.{◌≡◌, ℕ, zero, suc, ◌+◌, ◌-◌, ◌*◌, ◌/◌, ◌%◌, ◌<◌, ◌≤◌, Bool, true, false, cond, not, ◌&&◌, List, [], ◌∷◌, ◌++◌, length, get_or, refl, ap, ◌∙◌, subst, arith}
 use Rattle.std.specs.Prelude.{None, nat_lt}
 use Rattle.std.specs.List.{flat_map, range_with_len, list_any}
-use Rattle.std.proofs.lemmas.Bool.{le-leb, eq-eqb, le-ltb}
+use Rattle.std.proofs.lemmas.Bool.{cases_Bool, le-leb, eq-eqb, le-ltb}
 use Rattle.std.proofs.lemmas.List.{length-append, get_or_append_left, get_or-append_right}
+use Rattle.tile.specs.declared.direction.Direction.TheVariants.{Right, Below}
 use Rattle.tile.specs.Grids.{joined}
-use Rattle.tile.specs.Laws.{each_pair, right_side, below_side, pair_forward, pair_reverse}
-use Rattle.tile.specs.Tiles.{penalty as penalty_laid}
-use Rattle.tile.specs.Refusals.{off_tile, lay_refusal}
-use Rattle.tile.proofs.Neighbours.{joins_neighbours}
+use Rattle.tile.specs.Refusals.{penalty_off, off_tile, lay_refusal}
+use Rattle.tile.proofs.Rows.{joins_neighbours}
 use Rattle.netpbm.specs.Images.{Image}
 use Rattle.prepress.specs.declared.area.Area.{Area}
 use Rattle.prepress.specs.Areas.{OnPage, pixel_count, has_right, has_below}
@@ -46,32 +45,29 @@ pub cost_at : (i : Image) (a : Area) (v k : ℕ) → v < pixel_count a → k < 4
 cost_at i a v k there inside = let same : 0 + v ≡ v = omega arith in fours_at (pixel_costs i a) 0 (pixel_count a) v k (λ u. refl) there inside ∙ ap (λ u. get_or (pixel_costs i a u) k 0) same
 
 -- nothing passes the test of a penalty off the tile: there is one only where the neighbour is on the area
-no_penalty : (b : Bool) (x : ℕ) → (not b && nat_lt 0 (cond b x 0)) ≡ false
-no_penalty true x = refl
+no_penalty : (b : Bool) (x : ℕ) → (nat_lt 0 (cond b x 0) && not b) ≡ false
+no_penalty true x = grind (arith, cases_Bool (nat_lt 0 x))
 no_penalty false x = refl
 
 -- the neighbours of a pixel are joined to it where they are on the area
-pub right_joined : (a : Area) (v : ℕ) → v < pixel_count a → joined a.width (pixel_count a) (2 * v) ≡ has_right a v
+pub right_joined : (a : Area) (v : ℕ) → v < pixel_count a → joined a.width (pixel_count a) Right v ≡ has_right a v
 right_joined a v there =
     let (_, row, column, whole) = split_rows a.height a.width v (omega arith) in
-    subst (λ k. joined a.width (pixel_count a) (2 * k) ≡ has_right a v) whole (joins_neighbours a.width a.height (v % a.width) (v / a.width) column row).0
+    subst (λ k. joined a.width (pixel_count a) Right k ≡ has_right a v) whole (joins_neighbours a.width a.height (v % a.width) (v / a.width) column row).right
 
-pub below_joined : (a : Area) (v : ℕ) → v < pixel_count a → joined a.width (pixel_count a) (2 * v + 1) ≡ has_below a v
+pub below_joined : (a : Area) (v : ℕ) → v < pixel_count a → joined a.width (pixel_count a) Below v ≡ has_below a v
 below_joined a v there =
     let (_, row, column, whole) = split_rows a.height a.width v (omega arith) in
-    subst (λ k. joined a.width (pixel_count a) (2 * k + 1) ≡ has_below a v) whole (joins_neighbours a.width a.height (v % a.width) (v / a.width) column row).1
+    subst (λ k. joined a.width (pixel_count a) Below k ≡ has_below a v) whole (joins_neighbours a.width a.height (v % a.width) (v / a.width) column row).below
 
-pair_inside : (i : Image) (a : Area) (p : ℕ) → p < 2 * pixel_count a → (not (joined a.width (pixel_count a) p) && nat_lt 0 (penalty_laid (area_costs i a) p)) ≡ false
-pair_inside i a = each_pair (λ p. p < 2 * pixel_count a → (not (joined a.width (pixel_count a) p) && nat_lt 0 (penalty_laid (area_costs i a) p)) ≡ false)
-    (λ v there.
-    let inside : v < pixel_count a = omega arith in
-    rw (right_joined a v inside, right_side v, pair_forward v, cost_at i a v 2 inside (omega arith)) (no_penalty (has_right a v) _))
-    (λ v there.
-    let inside : v < pixel_count a = omega arith in
-    rw (below_joined a v inside, below_side v, pair_reverse v, cost_at i a v 3 inside (omega arith)) (no_penalty (has_below a v) _))
+no_right : (i : Image) (a : Area) (v : ℕ) → v < pixel_count a → penalty_off a.width (pixel_count a) (area_costs i a) Right v ≡ false
+no_right i a v there = rw (right_joined a v there, cost_at i a v 2 there (omega arith)) (no_penalty (has_right a v) _)
+
+no_below : (i : Image) (a : Area) (v : ℕ) → v < pixel_count a → penalty_off a.width (pixel_count a) (area_costs i a) Below v ≡ false
+no_below i a v there = rw (below_joined a v there, cost_at i a v 3 there (omega arith)) (no_penalty (has_below a v) _)
 
 costs_inside : (i : Image) (a : Area) → off_tile a.width (pixel_count a) (area_costs i a) ≡ false
-costs_inside i a = none_passes _ 0 (2 * pixel_count a) (λ p there. pair_inside i a p (omega arith))
+costs_inside i a = none_passes _ 0 (pixel_count a) (λ v there. let inside : v < pixel_count a = omega arith in rw (no_right i a v inside, no_below i a v inside) refl)
 
 -- so a lay over a table that is long enough is accepted
 pub lay_accepted : (i : Image) (a : Area) (w h records : ℕ) → OnPage w h a → pixel_count a ≤ records → lay_refusal a.width a.height (area_costs i a) records ≡ None

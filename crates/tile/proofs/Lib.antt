@@ -1,5 +1,6 @@
+pub mod Places
+pub mod Telling
 pub mod Changes
-pub mod Nth
 pub mod Energies
 pub mod Layings
-pub mod Neighbours
+pub mod Rows

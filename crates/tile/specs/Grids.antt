@@ -1,66 +1,79 @@
--- The graph of a tile: pixels numbered row by row, each joined to its neighbours. Each pair of arcs has a number: pair 2v joins pixel v to
--- the one at its right, and pair 2v + 1 to the one below. Pair p has the arcs 2p, from pixel v to the neighbour, and 2p + 1, its reverse.
-use Rattle.std.specs.Prelude.{ℕ, ◌+◌, ◌-◌, ◌*◌, ◌/◌, ◌%◌, Bool, true, cond, ◌&&◌, List, [], ◌∷◌, ◌++◌, Some, None, ◌==◌, nat_le, nat_lt}
+-- The graph of a tile: pixels numbered row by row, each joined to its neighbours. Pixel v has an arc in each direction in which there is a
+-- neighbour, of the code 4v and the direction's number.
+use Rattle.std.specs.Prelude.{◌≡◌, ℕ, ◌+◌, ◌-◌, ◌*◌, ◌/◌, ◌%◌, Bool, cond, ◌&&◌, List, [], ◌∷◌, map, filter, Some, None, ◌==◌, nat_le, nat_lt}
 use Rattle.network.specs.Nets.{Ends, Graph}
-use Rattle.tile.specs.declared.arc.Side.{Side}
-use Rattle.tile.specs.declared.arc.Side.TheVariants.{Right, Below}
-use Rattle.tile.specs.declared.arc.Way.{Way}
-use Rattle.tile.specs.declared.arc.Way.TheVariants.{Forward, Reverse}
+use Rattle.network.specs.declared.arc.Arc.{Arc}
+use Rattle.tile.specs.declared.direction.Direction.{Direction}
+use Rattle.tile.specs.declared.direction.Direction.TheVariants.{Right, Left, Below, Above}
 
--- the pixel of a pair, and its side of that
-abbrev pub owner : ℕ → ℕ
-owner p = p / 2
+-- all directions, in the order of their numbers
+abbrev pub directions : List Direction
+directions = Right ∷ Left ∷ Below ∷ Above ∷ []
 
-abbrev pub side_of : ℕ → Side
-side_of p = cond (p % 2 == 0) Right Below
+abbrev pub number : Direction → ℕ
+number Right = 0
+number Left = 1
+number Below = 2
+number Above = 3
 
--- which of its pair an arc is
-abbrev pub way_of : ℕ → Way
-way_of a = cond (a % 2 == 0) Forward Reverse
+abbrev pub opposite : Direction → Direction
+opposite Right = Left
+opposite Left = Right
+opposite Below = Above
+opposite Above = Below
 
--- the arcs of a pair
-abbrev pub arc_of : ℕ → Way → ℕ
-arc_of p Forward = 2 * p
-arc_of p Reverse = 2 * p + 1
+-- the neighbour of pixel v there, in rows of w pixels
+abbrev pub neighbour : ℕ → Direction → ℕ → ℕ
+neighbour w Right v = v + 1
+neighbour w Left v = v - 1
+neighbour w Below v = v + w
+neighbour w Above v = v - w
 
--- how far on the neighbour lies, in rows of w pixels
-abbrev pub step : ℕ → Side → ℕ
-step w Right = 1
-step w Below = w
-
--- the neighbour of a pair
-abbrev pub neighbour : ℕ → ℕ → ℕ
-neighbour w p = owner p + step w (side_of p)
+-- the way back from the neighbour leads to the pixel; not so where a number would be below 0
+abbrev pub LeadsBack : ℕ → Direction → ℕ → Type 0
+LeadsBack w d v = neighbour w (opposite d) (neighbour w d v) ≡ v
 
 -- whether pixel v stands in the row of the one before it
 abbrev pub goes_on : ℕ → ℕ → Bool
 goes_on w v = nat_lt 0 (v % w)
 
--- whether the neighbour of a pair is on the tile: the one at the right does not begin another row, nor does either lie past the n pixels
-abbrev pub on_tile : ℕ → Side → ℕ → Bool
-on_tile w Right v = goes_on w v
-on_tile w Below v = true
+-- whether pixel v has a neighbour there, on a tile of n pixels
+abbrev pub joined : ℕ → ℕ → Direction → ℕ → Bool
+joined w n Right v = nat_lt (v + 1) n && goes_on w (v + 1)
+joined w n Left v = nat_lt v n && goes_on w v
+joined w n Below v = nat_lt (v + w) n
+joined w n Above v = nat_lt v n && nat_le w v
 
-abbrev pub joined : ℕ → ℕ → ℕ → Bool
-joined w n p = nat_lt (neighbour w p) n && on_tile w (side_of p) (neighbour w p)
+-- the arc of pixel v to its neighbour there, and of an arc its pixel and its direction
+abbrev pub arc_of : Direction → ℕ → ℕ
+arc_of d v = 4 * v + number d
 
--- the ends of the arcs of a pair
-abbrev pub joins : ℕ → ℕ → Way → Ends
-joins w p Forward = record { tail = owner p; head = neighbour w p; reverse = arc_of p Reverse }
-joins w p Reverse = record { tail = neighbour w p; head = owner p; reverse = arc_of p Forward }
+abbrev pub owner : ℕ → ℕ
+owner a = a / 4
 
--- x alone where b holds, else nothing
-abbrev pub if_there : Bool → ℕ → List ℕ
-if_there b x = cond b (x ∷ []) []
+abbrev pub direction_of : ℕ → Direction
+direction_of a = cond (a % 4 == 0) Right (cond (a % 4 == 1) Left (cond (a % 4 == 2) Below Above))
 
--- the arcs of pixel v by place: to the right, to the left, down and up, each where there is one
+-- the ends of that arc, whose reverse is the neighbour's arc back
+abbrev pub joins : ℕ → Direction → ℕ → Ends
+joins w d v = record { tail = v; head = neighbour w d v; reverse = arc_of (opposite d) (neighbour w d v) }
+
+-- that arc told whole
+abbrev pub whole_arc : ℕ → Direction → ℕ → Arc
+whole_arc w d v = record { code = arc_of d v; head = neighbour w d v; reverse = arc_of (opposite d) (neighbour w d v) }
+
+-- where pixel v has neighbours: at its right, at its left, below and above
+abbrev pub directions_of : ℕ → ℕ → ℕ → List Direction
+directions_of w n v = filter (λ d. joined w n d v) directions
+
+-- its arcs by place
 abbrev pub arcs_of : ℕ → ℕ → ℕ → List ℕ
-arcs_of w n v = if_there (joined w n (2 * v)) (arc_of (2 * v) Forward) ++ (if_there (goes_on w v) (arc_of (2 * (v - 1)) Reverse) ++ (if_there (joined w n (2 * v + 1)) (arc_of (2 * v + 1) Forward) ++ if_there (nat_le w v) (arc_of (2 * (v - w) + 1) Reverse)))
+arcs_of w n v = map (λ d. arc_of d v) (directions_of w n v)
 
 -- n pixels in rows of w
 abbrev pub grid : ℕ → ℕ → Graph
 grid w n = record {
   nodes = n;
   arcs = arcs_of w n;
-  ends = λ a. cond (joined w n (a / 2)) (Some (joins w (a / 2) (way_of a))) None;
+  ends = λ a. cond (joined w n (direction_of a) (owner a)) (Some (joins w (direction_of a) (owner a))) None;
 }

@@ -22,7 +22,7 @@ pub tile_lawful : (x : Tile) → Lawful (tile_value x)
 tile_lawful x =
     let n = x.width * x.height in
     let few : n ≤ 64 * 64 = mul-le x.width x.height 64 64 x.narrow x.low in
-    lawful x.width (pixels_of x) (omega (arith, length-take-le n x.table.now x.room)) x.small
+    lawful x.width (pixels_of x) (omega (arith, length-take-le n x.table.now x.room)) x.told x.pairs
 
 abbrev pub tile_of : Tile → State
 tile_of x = record { table = x.table; width = x.width; height = x.height; net = tile_value x }

@@ -1,18 +1,19 @@
 // What a tile answers as a network.
-ghost use Rattle.std.specs.Prelude.{◌≡◌, ◌/◌, Ok, flat_map};
+ghost use Rattle.std.specs.Prelude.{◌≡◌, Ok, true, length};
 ghost use Rattle.std.specs.List.{slice_get};
-ghost use Rattle.std.specs.Option.{option_to_list};
 ghost use Rattle.network.specs.Answers.{at_arc, at_node};
+ghost use Rattle.tile.specs.Grids.{owner, direction_of, directions_of, joined, whole_arc};
 ghost use Rattle.tile.specs.Tables.{pixel_at};
 ghost use Rattle.tile.specs.Values.{pixels_of, tile_value, tile_lawful, tile_keeps, tile_keeping};
 
-use super::arc::{Side, Way, goes_on, is_joined, neighbour};
+use super::direction::Direction;
 use super::pixel::Pixel;
 use super::tile::Tile;
-use network::{Network, NetworkRefusal, Terminal};
+use network::{Arc, Network, NetworkRefusal, Terminal};
 
 impl<'a> Tile<'a> {
     // The pixel of a node.
+    #[inline(always)]
     fn pixel(&self, node: usize) -> Result<Pixel, NetworkRefusal>
         ensures { result ≡ at_node (tile_value self.now) node (pixel_at (pixels_of self.now) node) }
     {
@@ -20,15 +21,43 @@ impl<'a> Tile<'a> {
         pixels.get(node).copied().ok_or(NetworkRefusal::NoNode)
     }
 
-    // The pair of an arc.
-    fn pair(&self, arc: usize) -> Result<usize, NetworkRefusal>
-        ensures { result ≡ at_arc (λ _. Ok (arc / 2)) ((tile_value self.now).graph.ends arc) }
+    // The direction of the arc at a place of a node; none past the last place.
+    #[inline(always)]
+    fn direction_at(&self, node: usize, place: usize) -> Result<Option<Direction>, NetworkRefusal>
+        ensures { result ≡ at_node (tile_value self.now) node (slice_get (directions_of self.now.width (length (pixels_of self.now)) node) place) }
     {
-        let pair = arc / 2;
-        if !is_joined(self.width, self.node_count(), pair) {
+        let pixel = self.pixel(node)?;
+        Ok(pixel.neighbours.at(place))
+    }
+
+    // The tail of an arc and the direction in which it leads.
+    #[inline(always)]
+    fn origin(&self, arc: usize) -> Result<(usize, Direction), NetworkRefusal>
+        ensures { result ≡ at_arc (λ _. Ok (owner arc, direction_of arc)) ((tile_value self.now).graph.ends arc) }
+    {
+        let (tail, direction) = (arc / 4, Direction::of(arc));
+        let Ok(pixel) = self.pixel(tail) else {
             return Err(NetworkRefusal::NoArc);
+        };
+        if pixel.neighbours.has(direction) {
+            Ok((tail, direction))
+        } else {
+            Err(NetworkRefusal::NoArc)
         }
-        Ok(pair)
+    }
+
+    // The arc of a node to its neighbour in a direction.
+    #[inline(always)]
+    fn arc(&self, node: usize, direction: Direction) -> Arc
+        requires { joined self.now.width (length (pixels_of self.now)) direction node ≡ true }
+        ensures { result ≡ whole_arc self.now.width direction node }
+    {
+        let head = direction.neighbour(self.width, node);
+        Arc {
+            code: direction.arc(node),
+            head,
+            reverse: direction.opposite().arc(head),
+        }
     }
 }
 
@@ -41,75 +70,66 @@ impl<'a> Network for Tile<'a> {
 
     ghost keeping = { tile_keeping };
 
+    #[inline(always)]
     fn node_count(&self) -> usize {
         self.width * self.height
     }
 
+    #[inline(always)]
     fn terminal_residual(&self, terminal: Terminal, node: usize) -> Result<u64, NetworkRefusal> {
         let pixel = self.pixel(node)?;
         Ok(u64::from(pixel.terminal(terminal)))
     }
 
+    #[inline(always)]
     fn arc_at(&self, node: usize, place: usize) -> Result<Option<usize>, NetworkRefusal> {
-        self.pixel(node)?;
-        let (width, pixels) = (self.width, self.node_count());
-        // the pixel's own pairs; the arcs to the left and up are of the pairs of the pixels there
-        let (at_right, below) = (2 * node, 2 * node + 1);
-        let right = is_joined(width, pixels, at_right).then_some(Way::Forward.arc(at_right));
-        let left = goes_on(width, node).then(|| Way::Reverse.arc(2 * (node - 1)));
-        let down = is_joined(width, pixels, below).then_some(Way::Forward.arc(below));
-        let up = node
-            .checked_sub(width)
-            .map(|above| Way::Reverse.arc(2 * above + 1));
-        Ok(nth_there([right, left, down, up], place))
+        let Some(direction) = self.direction_at(node, place)? else {
+            return Ok(None);
+        };
+        Ok(Some(direction.arc(node)))
     }
 
+    #[inline(always)]
     fn arc_ends(&self, arc: usize) -> Result<(usize, usize, usize), NetworkRefusal> {
-        let pair = self.pair(arc)?;
-        let (pixel, neighbour) = (pair / 2, neighbour(self.width, pair));
-        match Way::of(arc) {
-            Way::Forward => Ok((pixel, neighbour, arc + 1)),
-            Way::Reverse => Ok((neighbour, pixel, arc - 1)),
-        }
+        let (tail, direction) = self.origin(arc)?;
+        let Arc { head, reverse, .. } = self.arc(tail, direction);
+        Ok((tail, head, reverse))
     }
 
+    #[inline(always)]
+    fn whole_arc_at(&self, node: usize, place: usize) -> Result<Option<Arc>, NetworkRefusal> {
+        let Some(direction) = self.direction_at(node, place)? else {
+            return Ok(None);
+        };
+        Ok(Some(self.arc(node, direction)))
+    }
+
+    #[inline(always)]
     fn arc_residual(&self, arc: usize) -> Result<u64, NetworkRefusal> {
-        let pair = self.pair(arc)?;
-        let residuals = self.table[pair / 2].pair(Side::of(pair));
-        Ok(u64::from(residuals.residual(Way::of(arc))))
+        let (tail, direction) = self.origin(arc)?;
+        Ok(u64::from(self.table[tail].residual(direction)))
     }
 
+    #[inline(always)]
     fn take(&mut self, terminal: Terminal, node: usize, amount: u64) -> Result<(), NetworkRefusal> {
         let pixel = self.pixel(node)?;
         let left = u64::from(pixel.terminal(terminal)).checked_sub(amount);
         let left = left.ok_or(NetworkRefusal::AboveResidual)?;
-        self.table[node] = pixel.with_terminal(terminal, left as u8);
+        let table = &mut *self.table;
+        table[node].set_terminal(terminal, left as u8);
         Ok(())
     }
 
+    #[inline(always)]
     fn shift(&mut self, arc: usize, amount: u64) -> Result<(), NetworkRefusal> {
-        let pair = self.pair(arc)?;
-        let side = Side::of(pair);
-        let pixel = self.table[pair / 2];
-        let moved = pixel.pair(side).moved(Way::of(arc), amount);
-        let moved = moved.ok_or(NetworkRefusal::AboveResidual)?;
-        self.table[pair / 2] = pixel.with_pair(side, moved);
+        let (tail, direction) = self.origin(arc)?;
+        let left = u64::from(self.table[tail].residual(direction)).checked_sub(amount);
+        let left = left.ok_or(NetworkRefusal::AboveResidual)?;
+        let (head, back) = (direction.neighbour(self.width, tail), direction.opposite());
+        let more = u64::from(self.table[head].residual(back)) + amount;
+        let table = &mut *self.table;
+        table[tail].set_residual(direction, left as u16);
+        table[head].set_residual(back, more as u16);
         Ok(())
     }
-}
-
-// What stands at a place of those that are there. No `flatten` and `nth`: they have no generated proof here.
-fn nth_there(arcs: [Option<usize>; 4], place: usize) -> Option<usize>
-    ensures { result ≡ slice_get (flat_map option_to_list arcs) place }
-{
-    let mut before = place;
-    for arc in arcs {
-        if arc.is_some() {
-            if before == 0 {
-                return arc;
-            }
-            before -= 1;
-        }
-    }
-    None
 }

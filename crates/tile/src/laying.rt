@@ -1,11 +1,12 @@
 // The calls that make, lay and end a tile.
-ghost use Rattle.std.specs.Prelude.{◌≡◌, ◌*◌, length};
-ghost use Rattle.tile.specs.Tables.{AllSmall};
+ghost use Rattle.std.specs.Prelude.{◌≡◌, ◌+◌, ◌*◌, ◌<◌, ◌≤◌, length};
 ghost use Rattle.tile.specs.Calls.{new_tile, Laid};
 ghost use Rattle.tile.specs.Values.{tile_of};
-ghost use Rattle.tile.specs.Layings.{laid_pixels};
+ghost use Rattle.tile.specs.Layings.{AllLaid};
 
-use super::pixel::{Pixel, read_pixel};
+use super::costs::read_pixel;
+use super::neighbours::Neighbours;
+use super::pixel::Pixel;
 use super::refusal::LayRefusal;
 use super::tile::Tile;
 
@@ -27,7 +28,7 @@ impl<'a> Tile<'a> {
         ensures { Laid (tile_of self.old) width height costs.now result (tile_of self.new) }
     {
         LayRefusal::check(width, height, costs, self.table.len())?;
-        write_pixels(&mut self.table[..width * height], costs);
+        write_pixels(&mut self.table[..width * height], width, costs);
         self.width = width;
         self.height = height;
         Ok(())
@@ -42,12 +43,17 @@ impl<'a> Tile<'a> {
 }
 
 // Writes what four bytes a pixel tell.
-fn write_pixels(pixels: &mut [Pixel], costs: &[u8])
-    requires { length costs.now ≡ 4 * length pixels.old }
-    ensures written { pixels.new ≡ laid_pixels costs.now (length pixels.old) }
-    ensures small { AllSmall pixels.new }
+fn write_pixels(pixels: &mut [Pixel], width: usize, costs: &[u8])
+    requires narrow { width ≤ 64 }
+    requires some { 0 < width }
+    requires few { length pixels.old ≤ 4096 }
+    requires long { length costs.now ≡ 4 * length pixels.old }
+    ensures as_long { length pixels.new ≡ length pixels.old }
+    ensures written { AllLaid width (length pixels.old) costs.now pixels.new }
 {
+    let count = pixels.len();
     for (number, pixel) in pixels.iter_mut().enumerate() {
-        *pixel = read_pixel(costs, number);
+        let neighbours = Neighbours::of(width, count, number);
+        *pixel = read_pixel(costs, width, number, neighbours);
     }
 }

@@ -2,14 +2,17 @@
 #![tactic(auto)]
 
 mod answering;
-mod arc;
 mod asking;
+mod costs;
+mod direction;
 mod laying;
+mod neighbours;
 mod pixel;
 mod refusal;
 mod theorems;
 mod tile;
 
-pub use pixel::{Pair, Pixel};
+pub use direction::Direction;
+pub use pixel::Pixel;
 pub use refusal::{LayRefusal, MOST_SIDE};
 pub use tile::Tile;

@@ -1,12 +1,13 @@
 // Why a tile refuses a lay, and the number of each refusal.
 ghost use Rattle.std.specs.Prelude.{◌≡◌, ◌+◌, ◌*◌, ◌/◌, ◌<◌, ◌≤◌, OnOk, length};
 ghost use Rattle.std.specs.Result.{result_err};
-ghost use Rattle.tile.specs.Refusals.{question, lay_refusal, off_tile, sized};
-ghost use Rattle.tile.specs.Tiles.{penalty};
+ghost use Rattle.tile.specs.Grids.{LeadsBack};
+ghost use Rattle.tile.specs.Refusals.{question, lay_refusal, off_tile, penalty_off, sized};
 ghost use Rattle.tile.specs.Accepted.{Lays};
 
-use super::arc::{Side, is_joined};
-use super::pixel::read_pixel;
+use super::costs::penalty;
+use super::direction::Direction;
+use super::neighbours::is_joined;
 
 // The most pixels of a side.
 pub const MOST_SIDE: usize = 64;
@@ -71,21 +72,34 @@ fn is_sized(pixels: usize) -> bool
     (1..=MOST_SIDE).contains(&pixels)
 }
 
-// The penalty between the pixels of a pair.
-fn penalty(costs: &[u8], pair: usize) -> u16
-    requires { 4 * (pair / 2) + 3 < length costs.now }
-    ensures { result ≡ penalty costs.now pair }
-{
-    let pixel = read_pixel(costs, pair / 2);
-    pixel.pair(Side::of(pair)).forward
-}
-
 // Whether there is a penalty between a pixel and one that is not on the tile.
 fn is_off_tile(width: usize, pixels: usize, costs: &[u8]) -> bool
     requires narrow { width ≤ 64 }
-    requires some { 0 < pixels → 0 < width }
+    requires some { 0 < width }
+    requires few { pixels ≤ 4096 }
     requires long { length costs.now ≡ 4 * pixels }
     ensures { result ≡ off_tile width pixels costs.now }
 {
-    (0..2 * pixels).any(|pair| !is_joined(width, pixels, pair) && penalty(costs, pair) > 0)
+    (0..pixels).any(|pixel| {
+        has_penalty_off(width, pixels, costs, Direction::Right, pixel)
+            || has_penalty_off(width, pixels, costs, Direction::Below, pixel)
+    })
+}
+
+// Whether there is a penalty between a pixel and what lies in a direction, which is not on the tile.
+fn has_penalty_off(
+    width: usize,
+    pixels: usize,
+    costs: &[u8],
+    direction: Direction,
+    pixel: usize,
+) -> bool
+    requires narrow { width ≤ 64 }
+    requires some { 0 < width }
+    requires there { pixel < pixels }
+    requires long { length costs.now ≡ 4 * pixels }
+    requires ahead { LeadsBack width direction pixel }
+    ensures { result ≡ penalty_off width pixels costs.now direction pixel }
+{
+    penalty(costs, width, direction, pixel) > 0 && !is_joined(width, pixels, direction, pixel)
 }

@@ -1,6 +1,6 @@
 // A page tile: pixels in rows over a borrowed table, of which a part may be laid.
 ghost use Rattle.std.specs.Prelude.{◌*◌, ◌≤◌, length, take};
-ghost use Rattle.tile.specs.Tables.{AllSmall};
+ghost use Rattle.tile.specs.Tables.{Told, SmallPairs, of_pixels};
 
 use super::pixel::Pixel;
 
@@ -13,5 +13,6 @@ pub struct Tile<'a> {
     ghost narrow: { width ≤ 64 },
     ghost low: { height ≤ 64 },
     ghost room: { width * height ≤ length table.now },
-    ghost small: { AllSmall (take (width * height) table.now) },
+    ghost told: { Told width (take (width * height) table.now) },
+    ghost pairs: { SmallPairs (of_pixels width (take (width * height) table.now)) },
 }

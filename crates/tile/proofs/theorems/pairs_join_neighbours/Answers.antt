@@ -1,4 +1,4 @@
-use Rattle.tile.proofs.Neighbours.{joins_neighbours}
+use Rattle.tile.proofs.Rows.{joins_neighbours}
 use Rattle.tile.proofs.theorems.pairs_join_neighbours.Goals as goal
 
 pub returns : goal.returns

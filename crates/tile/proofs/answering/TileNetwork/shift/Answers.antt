@@ -1,61 +1,123 @@
-use Rattle.std.proofs.Common.{◌≡◌, ◌*◌, ◌/◌, ◌<◌, ◌≤◌, true, Err, refl, take, set, ap, ◌∙◌, arith, length-set}
+use Rattle.std.proofs.Common.{◌≡◌, ◌+◌, ◌-◌, ◌*◌, ◌≤◌, true, Err, refl, take, set, sym, subst, ◌∙◌, arith, length-set}
+use Rattle.std.proofs.lemmas.Bool.{le-leb}
 use Rattle.std.proofs.lemmas.Bool.Decides.{nat_tests}
-use Rattle.std.proofs.lemmas.List.{length-take-le}
+use Rattle.std.proofs.lemmas.List.{length-take-le, drop-set-lt}
 use Rattle.network.specs.Answers.{done, shift_answer}
 use Rattle.network.specs.declared.refusal.NetworkRefusal.TheVariants.{AboveResidual}
-use Rattle.tile.specs.Grids.{owner, side_of, way_of, joined}
-use Rattle.tile.specs.Pixels.{pair_of, put_pair, residual_of, moved}
-use Rattle.tile.specs.Laws.{pair_small}
-use Rattle.tile.specs.Tables.{pixel_at, of_pixels}
-use Rattle.tile.proofs.Changes.{small_at, small_moved, table_small, table_moved, table_answer}
+use Rattle.tile.specs.Grids.{owner, direction_of, opposite, neighbour, joined}
+use Rattle.tile.specs.Pixels.{residual_of, put_residual}
+use Rattle.tile.specs.Tables.{pixel_at, of_pixels, SmallPairs}
+use Rattle.tile.specs.Laws.{both_joined}
+use Rattle.tile.specs.Values.{tile_lawful}
+use Rattle.tile.proofs.Changes.{table_answer, table_pair, table_shifted, pairs_shifted}
 use Rattle.tile.proofs.answering.TileNetwork.shift.Goals as goal
 
-pub moved-moved-requires : goal.moved-moved-requires
-moved-moved-requires c =
-    let x = c.args.self.now in
-    let n = x.width * x.height in
-    let long = length-take-le n x.table.now x.room in
-    let there : c.in_ok-pair.pair / 2 < n = grind (arith, nat_tests) in
-    rw c.pair-2.ensures (pair_small (pixel_at x.table.now (c.in_ok-pair.pair / 2)) c.of-side.result (small_at x.table.now n (c.in_ok-pair.pair / 2) x.room x.small there))
-
-pub returns-in_err-moved-clause-after : goal.returns-in_err-moved-clause-after
-returns-in_err-moved-clause-after c =
+pub returns-in_err-left-clause-after : goal.returns-in_err-left-clause-after
+returns-in_err-left-clause-after c =
     let x = c.args.self.now in
     let n = x.width * x.height in
     let a = c.args.arc in
     let long = length-take-le n x.table.now x.room in
-    let there : joined x.width n (a / 2) ≡ true = grind (arith, nat_tests) in
+    let there : joined x.width n (direction_of a) (owner a) ≡ true = grind (arith, nat_tests) in
     let answer = table_answer x.width x.table.now n a c.args.amount x.room there in
     let refused : shift_answer (of_pixels x.width (take n x.table.now)) a c.args.amount ≡ Err AboveResidual = rw answer (grind (arith, nat_tests)) in
     rw refused refl
 
-pub invariant_of-self-clause-room : goal.invariant_of-self-clause-room
-invariant_of-self-clause-room c = let x = c.args.self.now in omega (arith, x.room, length-set x.table.now (c.in_ok-pair.pair / 2) c.with_pair.result)
-
-pub invariant_of-self-clause-small : goal.invariant_of-self-clause-small
-invariant_of-self-clause-small c =
+pub overflow_cast-more : goal.overflow_cast-more
+overflow_cast-more c =
     let x = c.args.self.now in
     let n = x.width * x.height in
+    let a = c.args.arc in
     let long = length-take-le n x.table.now x.room in
-    let p = c.args.arc / 2 in
-    let old = pixel_at x.table.now (owner p) in
-    let at : c.in_ok-pair.pair ≡ p = grind (arith, nat_tests) in
-    let there : owner p < n = grind (arith, nat_tests) in
-    let most : c.args.amount ≤ residual_of (pair_of old (side_of p)) (way_of c.args.arc) = grind (arith, nat_tests) in
-    let is : c.with_pair.result ≡ put_pair old (side_of p) (moved (pair_of old (side_of p)) (way_of c.args.arc) c.args.amount) = grind (arith, nat_tests) in
-    let small = small_moved old (side_of p) (way_of c.args.arc) c.args.amount (small_at x.table.now n (owner p) x.room x.small there) most in
-    rw (at, is) (table_small x.table.now n (owner p) (put_pair old (side_of p) (moved (pair_of old (side_of p)) (way_of c.args.arc) c.args.amount)) x.room there x.small small)
+    let there : joined x.width n (direction_of a) (owner a) ≡ true = grind (arith, nat_tests) in
+    let pair = table_pair x.width x.table.now n a x.room there x.pairs in
+    let at : c.in_ok-tail.tail ≡ owner a = grind (arith, nat_tests) in
+    let way : c.in_ok-tail.direction ≡ direction_of a = grind (arith, nat_tests) in
+    let less : c.args.amount ≤ residual_of (pixel_at x.table.now (owner a)) (direction_of a) = rw (← at, ← way) (grind (arith, nat_tests)) in
+    let back : c.residual-2.result ≡ residual_of (pixel_at x.table.now (neighbour x.width (direction_of a) (owner a))) (opposite (direction_of a)) = rw (← at, ← way) (grind arith) in
+    omega (arith, pair, less, back, c.from-2.ensures)
+
+pub invariant_of-self : goal.invariant_of-self
+invariant_of-self c =
+    let x = c.args.self.now in
+    let n = x.width * x.height in
+    let a = c.args.arc in
+    let table = x.table.now in
+    let d = direction_of a in
+    let v = owner a in
+    let u = neighbour x.width d v in
+    let long = length-take-le n table x.room in
+    let there : joined x.width n d v ≡ true = grind (arith, nat_tests) in
+    let at : c.in_ok-tail.tail ≡ v = grind (arith, nat_tests) in
+    let way : c.in_ok-tail.direction ≡ d = grind (arith, nat_tests) in
+    let head : c.neighbour-head.result ≡ u = rw (← at, ← way) c.neighbour-head.ensures in
+    let back : c.opposite-back.result ≡ opposite d = rw (← way) c.opposite-back.ensures in
+    let less : c.args.amount ≤ residual_of (pixel_at table v) d = rw (← at, ← way) (grind (arith, nat_tests)) in
+    let lower : c.in_ok-left.left ≡ residual_of (pixel_at table v) d - c.args.amount = rw (← at, ← way) (grind (arith, nat_tests)) in
+    let raise : c.from-2.result + c.args.amount ≡ residual_of (pixel_at table u) (opposite d) + c.args.amount = rw (← head, ← back) (omega (arith, c.from-2.ensures, c.residual-2.ensures)) in
+    let first : c.set_residual.new.self ≡ put_residual (pixel_at table v) d c.in_ok-left.left = rw (← at, ← way) c.set_residual.ensures in
+    let second : c.set_residual-2.new.self ≡ put_residual (pixel_at (set table v c.set_residual.new.self) u) (opposite d) (c.from-2.result + c.args.amount) = rw (← head, ← back, ← at) c.set_residual-2.ensures in
+    let (told, value) = table_shifted x.width table n a c.args.amount c.in_ok-left.left (c.from-2.result + c.args.amount) c.set_residual.new.self c.set_residual-2.new.self x.room there x.told lower raise first second in
+    let pairs = subst SmallPairs (sym value) (pairs_shifted x.width table n a c.args.amount x.room there less (tile_lawful x) x.pairs) in
+    record {
+      narrow = x.narrow;
+      low = x.low;
+      room = omega (arith, x.room, length-set table c.in_ok-tail.tail c.set_residual.new.self, length-set (set table c.in_ok-tail.tail c.set_residual.new.self) c.neighbour-head.result c.set_residual-2.new.self);
+      told = rw (at, head) told;
+      pairs = rw (at, head) pairs;
+    }
+
+pub returns-clause-answer : goal.returns-clause-answer
+returns-clause-answer c =
+    let x = c.args.self.now in
+    let n = x.width * x.height in
+    let a = c.args.arc in
+    let long = length-take-le n x.table.now x.room in
+    let there : joined x.width n (direction_of a) (owner a) ≡ true = grind (arith, nat_tests) in
+    sym (table_answer x.width x.table.now n a c.args.amount x.room there ∙ grind (arith, nat_tests))
 
 pub returns-clause-after : goal.returns-clause-after
 returns-clause-after c =
     let x = c.args.self.now in
     let n = x.width * x.height in
-    let long = length-take-le n x.table.now x.room in
     let a = c.args.arc in
-    let p = a / 2 in
-    let old = pixel_at x.table.now (owner p) in
-    let at : c.in_ok-pair.pair ≡ p = grind (arith, nat_tests) in
-    let there : joined x.width n p ≡ true = grind (arith, nat_tests) in
-    let is : c.with_pair.result ≡ put_pair old (side_of p) (moved (pair_of old (side_of p)) (way_of a) c.args.amount) = grind (arith, nat_tests) in
-    let accepted : shift_answer (of_pixels x.width (take n x.table.now)) a c.args.amount ≡ done = rw (table_answer x.width x.table.now n a c.args.amount x.room there) (grind (arith, nat_tests)) in
-    rw (accepted, at) (ap (λ r. of_pixels x.width (take n (set x.table.now (owner p) r))) is ∙ table_moved x.width x.table.now n a c.args.amount x.room there)
+    let table = x.table.now in
+    let d = direction_of a in
+    let v = owner a in
+    let u = neighbour x.width d v in
+    let long = length-take-le n table x.room in
+    let there : joined x.width n d v ≡ true = grind (arith, nat_tests) in
+    let at : c.in_ok-tail.tail ≡ v = grind (arith, nat_tests) in
+    let way : c.in_ok-tail.direction ≡ d = grind (arith, nat_tests) in
+    let head : c.neighbour-head.result ≡ u = rw (← at, ← way) c.neighbour-head.ensures in
+    let back : c.opposite-back.result ≡ opposite d = rw (← way) c.opposite-back.ensures in
+    let less : c.args.amount ≤ residual_of (pixel_at table v) d = rw (← at, ← way) (grind (arith, nat_tests)) in
+    let lower : c.in_ok-left.left ≡ residual_of (pixel_at table v) d - c.args.amount = rw (← at, ← way) (grind (arith, nat_tests)) in
+    let raise : c.from-2.result + c.args.amount ≡ residual_of (pixel_at table u) (opposite d) + c.args.amount = rw (← head, ← back) (omega (arith, c.from-2.ensures, c.residual-2.ensures)) in
+    let first : c.set_residual.new.self ≡ put_residual (pixel_at table v) d c.in_ok-left.left = rw (← at, ← way) c.set_residual.ensures in
+    let second : c.set_residual-2.new.self ≡ put_residual (pixel_at (set table v c.set_residual.new.self) u) (opposite d) (c.from-2.result + c.args.amount) = rw (← head, ← back, ← at) c.set_residual-2.ensures in
+    let (told, value) = table_shifted x.width table n a c.args.amount c.in_ok-left.left (c.from-2.result + c.args.amount) c.set_residual.new.self c.set_residual-2.new.self x.room there x.told lower raise first second in
+    let accepted : shift_answer (of_pixels x.width (take n table)) a c.args.amount ≡ done = table_answer x.width table n a c.args.amount x.room there ∙ rw (le-leb c.args.amount (residual_of (pixel_at table v) d) less) refl in
+    rw (accepted, at, head) value
+
+pub returns-clause-kept : goal.returns-clause-kept
+returns-clause-kept c =
+    let x = c.args.self.now in
+    let n = x.width * x.height in
+    let table = x.table.now in
+    let first = set table c.in_ok-tail.tail c.set_residual.new.self in
+    let long = length-take-le n table x.room in
+    let there : joined x.width n (direction_of c.args.arc) (owner c.args.arc) ≡ true = grind (arith, nat_tests) in
+    let both = both_joined x.width n (direction_of c.args.arc) (owner c.args.arc) there in
+    let at : c.in_ok-tail.tail ≡ owner c.args.arc = grind (arith, nat_tests) in
+    let way : c.in_ok-tail.direction ≡ direction_of c.args.arc = grind (arith, nat_tests) in
+    let head : c.neighbour-head.result ≡ neighbour x.width (direction_of c.args.arc) (owner c.args.arc) = rw (← at, ← way) c.neighbour-head.ensures in
+    record {
+      width = refl;
+      height = refl;
+      spared = record {
+        same_table = refl;
+        as_long = length-set first c.neighbour-head.result c.set_residual-2.new.self ∙ length-set table c.in_ok-tail.tail c.set_residual.new.self;
+        untouched = drop-set-lt n first c.neighbour-head.result c.set_residual-2.new.self (rw head both.other) ∙ drop-set-lt n table c.in_ok-tail.tail c.set_residual.new.self (rw at both.pixel);
+      };
+    }

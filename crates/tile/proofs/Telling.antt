@@ -1,0 +1,52 @@
+-- What a pixel's record tells of its arcs.
+use Rattle.std.proofs.Common.{◌≡◌, ℕ, ◌<◌, true, false, List, length, filter, None, Some, Option, sym, refl, ap, ◌∙◌, ⊎_elim}
+use Rattle.std.proofs.lemmas.Bool.{cases_Bool}
+use Rattle.std.proofs.lemmas.Option.{slice_get-map}
+use Rattle.std.specs.Prelude.{option_map, Ok, Err, nat_lt}
+use Rattle.std.specs.List.{slice_get}
+use Rattle.network.specs.declared.refusal.NetworkRefusal.TheVariants.{NoNode}
+use Rattle.network.specs.Answers.{at_node, whole, arc_answer}
+use Rattle.tile.specs.declared.direction.Direction.{Direction}
+use Rattle.tile.specs.declared.direction.Direction.TheVariants.{Right, Left, Below, Above}
+use Rattle.tile.specs.declared.pixel.Pixel.{Pixel}
+use Rattle.tile.specs.Grids.{directions, joined, arc_of, directions_of, whole_arc, arcs_of, grid}
+use Rattle.tile.specs.Laws.{at_place, arc_there}
+use Rattle.tile.specs.Pixels.{has}
+use Rattle.tile.specs.Tables.{pixel_at, of_pixels, Told}
+
+-- the neighbours that its record tells are those on the tile
+pub directions_told : (w : ℕ) (pixels : List Pixel) (v : ℕ) → Told w pixels → v < length pixels → filter (has (pixel_at pixels v).neighbours) directions ≡ directions_of w (length pixels) v
+directions_told w pixels v told there = let same = told.known v there in rw (same Right, same Left, same Below, same Above) refl
+
+-- an accepted question about a node tells that it is there, and what was asked
+accepted : {A : Type 0} (w : ℕ) (pixels : List Pixel) (v : ℕ) (o x : A) → Ok o ≡ at_node (of_pixels w pixels) v x → (nat_lt v (length pixels) ≡ true) × (o ≡ x)
+accepted w pixels v o x is = ⊎_elim
+    (λ (there : nat_lt v (length pixels) ≡ true). let same : Ok o ≡ Ok x = rw there at is in (there, cc))
+    (λ (none : nat_lt v (length pixels) ≡ false). let other : Ok o ≡ Err NoNode = rw none at is in absurd cc)
+    (cases_Bool (nat_lt v (length pixels)))
+
+-- what stands at place k of the directions of pixel v, as the tile answers it
+abbrev Answers : ℕ → List Pixel → ℕ → ℕ → Option Direction → Type 0
+Answers w pixels v k o = Ok o ≡ at_node (of_pixels w pixels) v (slice_get (directions_of w (length pixels) v) k)
+
+-- a direction there leads to a neighbour
+pub leads : (w : ℕ) (pixels : List Pixel) (v k : ℕ) (d : Direction) → Answers w pixels v k (Some d) → joined w (length pixels) d v ≡ true
+leads w pixels v k d is = at_place (λ d. joined w (length pixels) d v) directions k d (sym (accepted w pixels v (Some d) _ is).1)
+
+-- and the arc at that place leads there
+arc_told : (w : ℕ) (pixels : List Pixel) (v k : ℕ) (o : Option Direction) → Answers w pixels v k o → slice_get (arcs_of w (length pixels) v) k ≡ option_map (λ d. arc_of d v) o
+arc_told w pixels v k o is = slice_get-map (λ d. arc_of d v) (directions_of w (length pixels) v) k ∙ ap (option_map (λ d. arc_of d v)) (sym (accepted w pixels v o _ is).1)
+
+pub there_answer : {A : Type 0} (w : ℕ) (pixels : List Pixel) (v : ℕ) (x : A) → nat_lt v (length pixels) ≡ true → at_node (of_pixels w pixels) v x ≡ Ok x
+there_answer w pixels v x there = rw there refl
+
+pub whole_told : (w : ℕ) (pixels : List Pixel) (v k : ℕ) (o : Option Direction) → Answers w pixels v k o → arc_answer (of_pixels w pixels) v k ≡ Ok (option_map (λ d. whole_arc w d v) o)
+whole_told w pixels v k o is =
+    let g = grid w (length pixels) in
+    there_answer w pixels v (whole g (slice_get (arcs_of w (length pixels) v) k)) (accepted w pixels v o _ is).0
+    ∙ ap (λ a. Ok (whole g a)) (arc_told w pixels v k o is)
+    ∙ ap Ok (each o is)
+  where
+    each : (o : Option Direction) → Answers w pixels v k o → whole (grid w (length pixels)) (option_map (λ d. arc_of d v) o) ≡ option_map (λ d. whole_arc w d v) o
+    each None at = refl
+    each (Some d) at = rw (arc_there w (length pixels) d v (leads w pixels v k d at)) refl

@@ -1,0 +1,91 @@
+// The directions from a pixel to its neighbours, and the arcs that lead there.
+ghost use Rattle.std.specs.Prelude.{◌≡◌, ◌^◌, ◌<◌, ◌≤◌};
+ghost use Rattle.tile.specs.Grids.{directions, number, opposite, neighbour, arc_of, direction_of};
+
+// No call takes one, but what a lay promises speaks of them.
+#[derive(Clone, Copy, PartialEq, Eq, Debug)]
+pub enum Direction {
+    Right,
+    Left,
+    Below,
+    Above,
+}
+
+impl Direction {
+    // All directions, in the order of their numbers.
+    #[inline(always)]
+    pub(crate) fn all() -> [Direction; 4]
+        ensures { result ≡ directions }
+    {
+        [
+            Direction::Right,
+            Direction::Left,
+            Direction::Below,
+            Direction::Above,
+        ]
+    }
+
+    #[inline(always)]
+    pub(crate) fn number(self) -> usize
+        ensures { result ≡ number self }
+    {
+        match self {
+            Direction::Right => 0,
+            Direction::Left => 1,
+            Direction::Below => 2,
+            Direction::Above => 3,
+        }
+    }
+
+    #[inline(always)]
+    pub(crate) fn opposite(self) -> Direction
+        ensures { result ≡ opposite self }
+    {
+        match self {
+            Direction::Right => Direction::Left,
+            Direction::Left => Direction::Right,
+            Direction::Below => Direction::Above,
+            Direction::Above => Direction::Below,
+        }
+    }
+
+    // The neighbour of a pixel there, in rows of `width`: a place in a row or a whole row further on, or back.
+    #[inline(always)]
+    pub(crate) fn neighbour(self, width: usize, pixel: usize) -> usize
+        requires small { pixel < 2 ^ 62 }
+        requires narrow { width ≤ 64 }
+        requires there { neighbour width (opposite self) (neighbour width self pixel) ≡ pixel }
+        ensures { result ≡ neighbour width self pixel }
+    {
+        let step = match self {
+            Direction::Right | Direction::Left => 1,
+            Direction::Below | Direction::Above => width,
+        };
+        match self {
+            Direction::Right | Direction::Below => pixel + step,
+            Direction::Left | Direction::Above => pixel - step,
+        }
+    }
+
+    // The arc of a pixel in this direction.
+    #[inline(always)]
+    pub(crate) fn arc(self, pixel: usize) -> usize
+        requires { pixel < 2 ^ 61 }
+        ensures { result ≡ arc_of self pixel }
+    {
+        4 * pixel + self.number()
+    }
+
+    // The direction of an arc.
+    #[inline(always)]
+    pub(crate) fn of(arc: usize) -> Direction
+        ensures { result ≡ direction_of arc }
+    {
+        match arc % 4 {
+            0 => Direction::Right,
+            1 => Direction::Left,
+            2 => Direction::Below,
+            _ => Direction::Above,
+        }
+    }
+}
