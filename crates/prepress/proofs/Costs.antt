@@ -1,12 +1,13 @@
 -- What is laid of an area is accepted, and splits it for little.
 use Rattle.std.proofs.Common.{◌≡◌, ℕ, zero, suc, ◌+◌, ◌-◌, ◌*◌, ◌/◌, ◌%◌, ◌<◌, ◌≤◌, Bool, true, false, cond, not, ◌&&◌, List, [], ◌∷◌, ◌++◌, length, get_or, refl, ap, ◌∙◌, subst, arith}
 use Rattle.std.specs.Prelude.{None, nat_lt}
-use Rattle.std.specs.List.{flat_map, range_with_len, list_any}
+use Rattle.std.specs.List.{flat_map, range_with_len}
 use Rattle.std.proofs.lemmas.Bool.{cases_Bool, le-leb, eq-eqb, le-ltb}
 use Rattle.std.proofs.lemmas.List.{length-append, get_or_append_left, get_or-append_right}
 use Rattle.tile.specs.declared.direction.Direction.TheVariants.{Right, Below}
 use Rattle.tile.specs.Grids.{joined}
 use Rattle.tile.specs.Refusals.{penalty_off, off_tile, lay_refusal}
+use Rattle.tile.proofs.Ranges.{none_passes}
 use Rattle.tile.proofs.Rows.{joins_neighbours}
 use Rattle.netpbm.specs.Images.{Image}
 use Rattle.prepress.specs.declared.area.Area.{Area}
@@ -31,11 +32,6 @@ fours_at f a (suc n) (suc v) k four there inside =
     let next : a + suc v ≡ a + 1 + v = omega arith in
     get_or-append_right (f a) (flat_map f (range_with_len (a + 1) n)) 4 (4 * suc v + k) 0 (four a) (omega arith)
     ∙ rw (on, next) (fours_at f (a + 1) n v k four (omega arith) inside)
-
--- no number passes the test
-none_passes : (p : ℕ → Bool) (a n : ℕ) → ((k : ℕ) → k < a + n → p k ≡ false) → list_any p (range_with_len a n) ≡ false
-none_passes p a zero none = refl
-none_passes p a (suc n) none = rw (none a (omega arith)) (none_passes p (a + 1) n (λ k there. none k (omega arith)))
 
 pub costs_long : (i : Image) (a : Area) → length (area_costs i a) ≡ 4 * pixel_count a
 costs_long i a = fours_long (pixel_costs i a) 0 (pixel_count a) (λ v. refl)

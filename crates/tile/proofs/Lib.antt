@@ -4,3 +4,4 @@ pub mod Changes
 pub mod Energies
 pub mod Layings
 pub mod Rows
+pub mod Ranges

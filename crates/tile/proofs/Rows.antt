@@ -1,28 +1,39 @@
 -- Where the neighbours of a pixel are on the tile, by its row and its place in it.
-use Rattle.std.proofs.Common.{◌≡◌, ℕ, ◌+◌, ◌*◌, ◌<◌, ◌≤◌, ◌&&◌, true, false, refl, ◌∙◌, sym, ⊎_elim, arith}
+use Rattle.std.proofs.Common.{◌≡◌, ℕ, ◌+◌, ◌*◌, ◌/◌, ◌%◌, cond, ◌<◌, ◌≤◌, ◌&&◌, refl, ap, ◌∙◌, sym, ⊎_elim, arith}
 use Rattle.std.proofs.lemmas.Bool.{cases_Bool, cases_lt, lt-ltb, le-ltb, le-leb}
 use Rattle.std.proofs.lemmas.Nat.{mod-mul-add, mul-add-lt, mul-le}
+use Rattle.std.proofs.Math.Nat.{mod-lt, mod-add-div'}
 use Rattle.std.specs.Prelude.{nat_lt}
 use Rattle.tile.specs.declared.direction.Direction.TheVariants.{Right, Left, Below, Above}
 use Rattle.tile.specs.Grids.{goes_on, joined}
 use Rattle.tile.specs.Theorems.{pixel_number, JoinsNeighbours}
 
--- the row of the pixel goes on
-inside_row : (w h x y : ℕ) → x + 1 < w → y < h → (nat_lt (pixel_number w x y + 1) (w * h) && goes_on w (pixel_number w x y + 1)) ≡ true
-inside_row w h x y inside row =
-    let next : pixel_number w x y + 1 ≡ y * w + (x + 1) = omega arith in
-    rw (next, lt-ltb (y * w + (x + 1)) (w * h) (mul-add-lt y w (x + 1) h row inside), mod-mul-add y w (x + 1) inside) (lt-ltb 0 (x + 1) (omega arith))
+-- the column of the next pixel
+pub column_of_next : (w v : ℕ) → 0 < w → (v + 1) % w ≡ cond (nat_lt (v % w + 1) w) (v % w + 1) 0
+column_of_next w v some =
+    let x = v % w in
+    let y = v / w in
+    let inside : x < w = mod-lt v some in
+    let whole : x + y * w ≡ v = mod-add-div' v w in
+    ⊎_elim
+    (λ (on : x + 1 < w). let next : v + 1 ≡ y * w + (x + 1) = omega (arith, whole) in rw (lt-ltb (x + 1) w on, next) (mod-mul-add y w (x + 1) on))
+    (λ (last : w ≤ x + 1). let next : v + 1 ≡ (y + 1) * w + 0 = omega (arith, whole) in rw (le-ltb (x + 1) w last, next) (mod-mul-add (y + 1) w 0 some))
+    (cases_lt (x + 1) w)
 
--- the pixel is the last of its row
-end_of_row : (w n x y : ℕ) → w ≤ x + 1 → x < w → (nat_lt (pixel_number w x y + 1) n && goes_on w (pixel_number w x y + 1)) ≡ false
-end_of_row w n x y last inside =
-    let next : pixel_number w x y + 1 ≡ (y + 1) * w + 0 = omega arith in
-    rw (next, mod-mul-add (y + 1) w 0 (omega arith)) (grind (arith, cases_Bool (nat_lt ((y + 1) * w + 0) n)))
+-- it stands in the same row unless that ends
+pub row_goes_on : (w v : ℕ) → 0 < w → goes_on w (v + 1) ≡ nat_lt (v % w + 1) w
+row_goes_on w v some = ap (nat_lt 0) (column_of_next w v some) ∙ ⊎_elim
+    (λ (on : v % w + 1 < w). rw (lt-ltb (v % w + 1) w on) (lt-ltb 0 (v % w + 1) (omega arith)))
+    (λ (last : w ≤ v % w + 1). rw (le-ltb (v % w + 1) w last) refl)
+    (cases_lt (v % w + 1) w)
 
 right : (w h x y : ℕ) → x < w → y < h → joined w (w * h) Right (pixel_number w x y) ≡ nat_lt (x + 1) w
-right w h x y inside row = ⊎_elim
-    (λ (on : x + 1 < w). inside_row w h x y on row ∙ sym (lt-ltb (x + 1) w on))
-    (λ (last : w ≤ x + 1). end_of_row w (w * h) x y last inside ∙ sym (le-ltb (x + 1) w last))
+right w h x y inside row =
+    let v = pixel_number w x y in
+    let goes : goes_on w (v + 1) ≡ nat_lt (x + 1) w = row_goes_on w v (omega arith) ∙ ap (λ k. nat_lt (k + 1) w) (mod-mul-add y w x inside) in
+    ap (λ b. nat_lt (v + 1) (w * h) && b) goes ∙ ⊎_elim
+    (λ (on : x + 1 < w). let next : v + 1 ≡ y * w + (x + 1) = omega arith in rw (lt-ltb (x + 1) w on, next, lt-ltb (y * w + (x + 1)) (w * h) (mul-add-lt y w (x + 1) h row on)) refl)
+    (λ (last : w ≤ x + 1). rw (le-ltb (x + 1) w last) (grind (arith, cases_Bool (nat_lt (v + 1) (w * h)))))
     (cases_lt (x + 1) w)
 
 left : (w h x y : ℕ) → x < w → y < h → joined w (w * h) Left (pixel_number w x y) ≡ nat_lt 0 x

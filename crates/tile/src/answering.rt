@@ -1,8 +1,9 @@
 // What a tile answers as a network.
-ghost use Rattle.std.specs.Prelude.{◌≡◌, Ok, true, length};
+ghost use Rattle.std.specs.Prelude.{◌≡◌, ◌<◌, Ok, true, length};
 ghost use Rattle.std.specs.List.{slice_get};
 ghost use Rattle.network.specs.Answers.{at_arc, at_node};
 ghost use Rattle.tile.specs.Grids.{owner, direction_of, directions_of, joined, whole_arc};
+ghost use Rattle.tile.specs.Pixels.{residual_of};
 ghost use Rattle.tile.specs.Tables.{pixel_at};
 ghost use Rattle.tile.specs.Values.{pixels_of, tile_value, tile_lawful, tile_keeps, tile_keeping};
 
@@ -44,6 +45,16 @@ impl<'a> Tile<'a> {
         } else {
             Err(NetworkRefusal::NoArc)
         }
+    }
+
+    // What can still be sent from a pixel in a direction.
+    #[inline(always)]
+    fn residual(&self, pixel: usize, direction: Direction) -> u16
+        requires { pixel < length self.now.table.now }
+        ensures { result ≡ residual_of (pixel_at self.now.table.now pixel) direction }
+    {
+        let table = &*self.table;
+        table[pixel].residual(direction)
     }
 
     // The arc of a node to its neighbour in a direction.
@@ -107,7 +118,7 @@ impl<'a> Network for Tile<'a> {
     #[inline(always)]
     fn arc_residual(&self, arc: usize) -> Result<u64, NetworkRefusal> {
         let (tail, direction) = self.origin(arc)?;
-        Ok(u64::from(self.table[tail].residual(direction)))
+        Ok(u64::from(self.residual(tail, direction)))
     }
 
     #[inline(always)]
@@ -123,10 +134,10 @@ impl<'a> Network for Tile<'a> {
     #[inline(always)]
     fn shift(&mut self, arc: usize, amount: u64) -> Result<(), NetworkRefusal> {
         let (tail, direction) = self.origin(arc)?;
-        let left = u64::from(self.table[tail].residual(direction)).checked_sub(amount);
+        let left = u64::from(self.residual(tail, direction)).checked_sub(amount);
         let left = left.ok_or(NetworkRefusal::AboveResidual)?;
         let (head, back) = (direction.neighbour(self.width, tail), direction.opposite());
-        let more = u64::from(self.table[head].residual(back)) + amount;
+        let more = u64::from(self.residual(head, back)) + amount;
         let table = &mut *self.table;
         table[tail].set_residual(direction, left as u16);
         table[head].set_residual(back, more as u16);

@@ -13,7 +13,6 @@ pub enum Direction {
 
 impl Direction {
     // All directions, in the order of their numbers.
-    #[inline(always)]
     pub(crate) fn all() -> [Direction; 4]
         ensures { result ≡ directions }
     {
@@ -76,7 +75,7 @@ impl Direction {
         4 * pixel + self.number()
     }
 
-    // The direction of an arc.
+    // The direction of an arc, which the last two bits of its code tell.
     #[inline(always)]
     pub(crate) fn of(arc: usize) -> Direction
         ensures { result ≡ direction_of arc }

@@ -5,7 +5,7 @@ ghost use Rattle.tile.specs.Values.{tile_of};
 ghost use Rattle.tile.specs.Layings.{AllLaid};
 
 use super::costs::read_pixel;
-use super::neighbours::Neighbours;
+use super::neighbours::{Neighbours, column_after};
 use super::pixel::Pixel;
 use super::refusal::LayRefusal;
 use super::tile::Tile;
@@ -52,8 +52,10 @@ fn write_pixels(pixels: &mut [Pixel], width: usize, costs: &[u8])
     ensures written { AllLaid width (length pixels.old) costs.now pixels.new }
 {
     let count = pixels.len();
+    let mut column = 0;
     for (number, pixel) in pixels.iter_mut().enumerate() {
-        let neighbours = Neighbours::of(width, count, number);
+        let neighbours = Neighbours::of(width, count, number, column);
         *pixel = read_pixel(costs, width, number, neighbours);
+        column = column_after(width, column);
     }
 }

@@ -1,33 +1,30 @@
 // Which neighbours of a pixel are on the tile.
-ghost use Rattle.std.specs.Prelude.{◌≡◌, ◌<◌, ◌≤◌, filter};
+ghost use Rattle.std.specs.Prelude.{◌≡◌, ◌+◌, ◌%◌, ◌<◌, ◌≤◌, cond, filter, nat_lt};
 ghost use Rattle.std.specs.List.{slice_get};
-ghost use Rattle.tile.specs.Grids.{directions, goes_on, joined};
+ghost use Rattle.tile.specs.declared.direction.Direction.TheVariants.{Right};
+ghost use Rattle.tile.specs.Grids.{directions, joined};
 ghost use Rattle.tile.specs.Tables.{Known};
 ghost use Rattle.tile.specs.Pixels.{has};
 
 use super::direction::Direction;
 
-// Whether a pixel has a neighbour in a direction, on a tile of so many pixels.
-pub(crate) fn is_joined(width: usize, pixels: usize, direction: Direction, pixel: usize) -> bool
+// The column of the next pixel, in rows of `width`.
+pub(crate) fn column_after(width: usize, column: usize) -> usize
+    requires { column < width }
+    ensures { result ≡ cond (nat_lt (column + 1) width) (column + 1) 0 }
+{
+    if column + 1 < width { column + 1 } else { 0 }
+}
+
+// Whether a pixel of a column has a neighbour at its right, on a tile of so many pixels.
+fn has_right(width: usize, pixels: usize, pixel: usize, column: usize) -> bool
     requires narrow { width ≤ 64 }
     requires some { 0 < width }
     requires there { pixel < pixels }
-    ensures { result ≡ joined width pixels direction pixel }
+    requires column { column ≡ pixel % width }
+    ensures { result ≡ joined width pixels Right pixel }
 {
-    match direction {
-        Direction::Right => pixel + 1 < pixels && goes_on(width, pixel + 1),
-        Direction::Left => goes_on(width, pixel),
-        Direction::Below => pixels - pixel > width,
-        Direction::Above => pixel >= width,
-    }
-}
-
-// Whether a pixel stands in the row of the one before it.
-fn goes_on(width: usize, pixel: usize) -> bool
-    requires { 0 < width }
-    ensures { result ≡ goes_on width pixel }
-{
-    pixel % width > 0
+    column + 1 < width && pixel + 1 < pixels
 }
 
 // A set of directions: in one byte, since each pixel's record holds one.
@@ -37,17 +34,18 @@ pub(crate) struct Neighbours {
 }
 
 impl Neighbours {
-    // Which neighbours of a pixel are on a tile of so many pixels.
-    pub(crate) fn of(width: usize, pixels: usize, pixel: usize) -> Neighbours
+    // Which neighbours of a pixel are on a tile of so many pixels. Its column is told, since to find it takes a division.
+    pub(crate) fn of(width: usize, pixels: usize, pixel: usize, column: usize) -> Neighbours
         requires narrow { width ≤ 64 }
         requires some { 0 < width }
         requires there { pixel < pixels }
+        requires column { column ≡ pixel % width }
         ensures { Known width pixels pixel result }
     {
-        let right = is_joined(width, pixels, Direction::Right, pixel);
-        let left = is_joined(width, pixels, Direction::Left, pixel);
-        let below = is_joined(width, pixels, Direction::Below, pixel);
-        let above = is_joined(width, pixels, Direction::Above, pixel);
+        let right = has_right(width, pixels, pixel, column);
+        let left = column > 0;
+        let below = pixels - pixel > width;
+        let above = pixel >= width;
         Neighbours {
             bits: u8::from(right) + 2 * u8::from(left) + 4 * u8::from(below) + 8 * u8::from(above),
         }
@@ -65,13 +63,20 @@ impl Neighbours {
     pub(crate) fn at(self, place: usize) -> Option<Direction>
         ensures { result ≡ slice_get (filter (has self) directions) place }
     {
-        let all = Direction::all();
         // nearly every pixel has all four neighbours
         if self.bits == 15 {
-            return all.get(place).copied();
+            (place < 4).then_some(Direction::of(place))
+        } else {
+            self.seek(place)
         }
+    }
+
+    // The same where some may be missing.
+    fn seek(self, place: usize) -> Option<Direction>
+        ensures { result ≡ slice_get (filter (has self) directions) place }
+    {
         let mut before = place;
-        for direction in all {
+        for direction in Direction::all() {
             if self.has(direction) {
                 if before == 0 {
                     return Some(direction);

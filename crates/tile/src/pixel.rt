@@ -20,8 +20,8 @@ pub struct Pixel {
 impl Pixel {
     // What can still be sent between the pixel and a terminal.
     #[inline(always)]
-    pub(crate) fn terminal(self, terminal: Terminal) -> u8
-        ensures { result ≡ terminal_of self terminal }
+    pub(crate) fn terminal(&self, terminal: Terminal) -> u8
+        ensures { result ≡ terminal_of self.now terminal }
     {
         match terminal {
             Terminal::Source => self.source,
@@ -41,8 +41,8 @@ impl Pixel {
 
     // What can still be sent to the neighbour in a direction.
     #[inline(always)]
-    pub(crate) fn residual(self, direction: Direction) -> u16
-        ensures { result ≡ residual_of self direction }
+    pub(crate) fn residual(&self, direction: Direction) -> u16
+        ensures { result ≡ residual_of self.now direction }
     {
         self.residuals[direction.number()]
     }

@@ -1,13 +1,15 @@
 // Why a tile refuses a lay, and the number of each refusal.
-ghost use Rattle.std.specs.Prelude.{◌≡◌, ◌+◌, ◌*◌, ◌/◌, ◌<◌, ◌≤◌, OnOk, length};
+ghost use Rattle.std.specs.Prelude.{◌≡◌, ◌+◌, ◌*◌, ◌/◌, ◌<◌, ◌≤◌, ◌&&◌, OnOk, length, nat_lt, not};
 ghost use Rattle.std.specs.Result.{result_err};
 ghost use Rattle.tile.specs.Grids.{LeadsBack};
-ghost use Rattle.tile.specs.Refusals.{question, lay_refusal, off_tile, penalty_off, sized};
+ghost use Rattle.tile.specs.Pixels.{has};
+ghost use Rattle.tile.specs.Tiles.{penalty_to};
+ghost use Rattle.tile.specs.Refusals.{question, lay_refusal, off_tile, sized};
 ghost use Rattle.tile.specs.Accepted.{Lays};
 
 use super::costs::penalty;
 use super::direction::Direction;
-use super::neighbours::is_joined;
+use super::neighbours::{Neighbours, column_after};
 
 // The most pixels of a side.
 pub const MOST_SIDE: usize = 64;
@@ -80,26 +82,30 @@ fn is_off_tile(width: usize, pixels: usize, costs: &[u8]) -> bool
     requires long { length costs.now ≡ 4 * pixels }
     ensures { result ≡ off_tile width pixels costs.now }
 {
-    (0..pixels).any(|pixel| {
-        has_penalty_off(width, pixels, costs, Direction::Right, pixel)
-            || has_penalty_off(width, pixels, costs, Direction::Below, pixel)
-    })
+    let mut column = 0;
+    for pixel in 0..pixels {
+        let neighbours = Neighbours::of(width, pixels, pixel, column);
+        if has_penalty_off(width, costs, Direction::Right, pixel, neighbours)
+            || has_penalty_off(width, costs, Direction::Below, pixel, neighbours)
+        {
+            return true;
+        }
+        column = column_after(width, column);
+    }
+    false
 }
 
-// Whether there is a penalty between a pixel and what lies in a direction, which is not on the tile.
+// Whether a pixel has a penalty in a direction where it has no neighbour.
 fn has_penalty_off(
     width: usize,
-    pixels: usize,
     costs: &[u8],
     direction: Direction,
     pixel: usize,
+    neighbours: Neighbours,
 ) -> bool
-    requires narrow { width ≤ 64 }
-    requires some { 0 < width }
-    requires there { pixel < pixels }
-    requires long { length costs.now ≡ 4 * pixels }
+    requires told { 4 * pixel + 3 < length costs.now }
     requires ahead { LeadsBack width direction pixel }
-    ensures { result ≡ penalty_off width pixels costs.now direction pixel }
+    ensures { result ≡ (nat_lt 0 (penalty_to width direction costs.now pixel) && not (has neighbours direction)) }
 {
-    penalty(costs, width, direction, pixel) > 0 && !is_joined(width, pixels, direction, pixel)
+    penalty(costs, width, direction, pixel) > 0 && !neighbours.has(direction)
 }

@@ -1,7 +1,7 @@
 use Rattle.std.proofs.Common.{◌≡◌}
 use Rattle.tile.specs.Pixels.{has}
 use Rattle.tile.proofs.Places.{passing}
-use Rattle.tile.proofs.neighbours.Neighbours.at.Given as goal
+use Rattle.tile.proofs.neighbours.Neighbours.seek.Given as goal
 
 -- the place before the directions that are left
 abbrev pub invariant-loop-direction : goal.invariant-loop-direction
