@@ -1,6 +1,6 @@
 // The directions from a pixel to its neighbours, and the arcs that lead there.
 ghost use Rattle.std.specs.Prelude.{◌≡◌, ◌^◌, ◌<◌, ◌≤◌};
-ghost use Rattle.tile.specs.Grids.{directions, number, opposite, neighbour, arc_of, direction_of};
+ghost use Rattle.tile.specs.Grids.{directions, number, opposite, neighbour, LeadsBack, arc_of, direction_of};
 
 // No call takes one, but what a lay promises speaks of them.
 #[derive(Clone, Copy, PartialEq, Eq, Debug)]
@@ -28,24 +28,15 @@ impl Direction {
     pub(crate) fn number(self) -> usize
         ensures { result ≡ number self }
     {
-        match self {
-            Direction::Right => 0,
-            Direction::Left => 1,
-            Direction::Below => 2,
-            Direction::Above => 3,
-        }
+        self as usize
     }
 
+    // By the number, whose last bit tells forth from back: a `match` here makes a jump of each question about an arc.
     #[inline(always)]
     pub(crate) fn opposite(self) -> Direction
         ensures { result ≡ opposite self }
     {
-        match self {
-            Direction::Right => Direction::Left,
-            Direction::Left => Direction::Right,
-            Direction::Below => Direction::Above,
-            Direction::Above => Direction::Below,
-        }
+        Direction::of(self.number() ^ 1)
     }
 
     // The neighbour of a pixel there, in rows of `width`: a place in a row or a whole row further on, or back.
@@ -53,16 +44,15 @@ impl Direction {
     pub(crate) fn neighbour(self, width: usize, pixel: usize) -> usize
         requires small { pixel < 2 ^ 62 }
         requires narrow { width ≤ 64 }
-        requires there { neighbour width (opposite self) (neighbour width self pixel) ≡ pixel }
+        requires there { LeadsBack width self pixel }
         ensures { result ≡ neighbour width self pixel }
     {
-        let step = match self {
-            Direction::Right | Direction::Left => 1,
-            Direction::Below | Direction::Above => width,
-        };
-        match self {
-            Direction::Right | Direction::Below => pixel + step,
-            Direction::Left | Direction::Above => pixel - step,
+        let number = self.number();
+        let step = if number < 2 { 1 } else { width };
+        if number % 2 == 0 {
+            pixel + step
+        } else {
+            pixel - step
         }
     }
 
