@@ -11,17 +11,20 @@ pub enum Direction {
     Above,
 }
 
+// In the order of their numbers.
+const ALL: [Direction; 4] = [
+    Direction::Right,
+    Direction::Left,
+    Direction::Below,
+    Direction::Above,
+];
+
 impl Direction {
     // All directions, in the order of their numbers.
     pub(crate) fn all() -> [Direction; 4]
         ensures { result ≡ directions }
     {
-        [
-            Direction::Right,
-            Direction::Left,
-            Direction::Below,
-            Direction::Above,
-        ]
+        ALL
     }
 
     #[inline(always)]
@@ -70,11 +73,6 @@ impl Direction {
     pub(crate) fn of(arc: usize) -> Direction
         ensures { result ≡ direction_of arc }
     {
-        match arc % 4 {
-            0 => Direction::Right,
-            1 => Direction::Left,
-            2 => Direction::Below,
-            _ => Direction::Above,
-        }
+        ALL[arc % 4]
     }
 }
