@@ -11,8 +11,8 @@ pub enum Direction {
     Above,
 }
 
-// In the order of their numbers.
-const ALL: [Direction; 4] = [
+// In the order of their numbers. What a question needs is looked up here or reckoned from the number, since a `match` makes a jump of it.
+static ALL: [Direction; 4] = [
     Direction::Right,
     Direction::Left,
     Direction::Below,
@@ -34,7 +34,7 @@ impl Direction {
         self as usize
     }
 
-    // By the number, whose last bit tells forth from back: a `match` here makes a jump of each question about an arc.
+    // The last bit of the number tells forth from back.
     #[inline(always)]
     pub(crate) fn opposite(self) -> Direction
         ensures { result ≡ opposite self }
