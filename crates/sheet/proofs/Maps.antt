@@ -1,5 +1,6 @@
 -- The bits of a bit map.
-use Rattle.std.proofs.Common.{◌≡◌, ℕ, zero, suc, ◌+◌, ◌-◌, ◌*◌, ◌/◌, ◌%◌, ◌^◌, ◌<◌, ◌≤◌, ◌⊎◌, refl, inl, inr, ⊎_elim, arith, pow_mono}
+use Rattle.std.proofs.Common.{◌≡◌, ℕ, zero, suc, ◌+◌, ◌-◌, ◌*◌, ◌/◌, ◌%◌, ◌^◌, ◌<◌, ◌≤◌, ◌⊎◌, List, [], ◌∷◌, Some, None, Option, length, slice_index_or, refl, sym, subst, zero-add, inl, inr, ⊎_elim, arith, pow_mono}
+use Rattle.std.specs.Option.{MatchOption}
 use lib.Bits.{bit_and}
 use Rattle.std.proofs.lemmas.Nat.{and_mask, shr-shr, div-add-mod'}
 use Rattle.std.proofs.lemmas.Bool.{cases_lt}
@@ -32,3 +33,32 @@ runs (suc (suc zero)) h = inr (inr (inl refl))
 runs (suc (suc (suc zero))) h = inr (inr (inr (inl refl)))
 runs (suc (suc (suc (suc zero)))) h = inr (inr (inr (inr refl)))
 runs (suc (suc (suc (suc (suc k))))) h = absurd (omega arith)
+
+-- a pattern of four bits that is a run is one of these
+run_of : (b k : ℕ) → b < 16 → b ≡ 2 ^ k - 1 → (b ≡ 0) ⊎ ((b ≡ 1) ⊎ ((b ≡ 3) ⊎ ((b ≡ 7) ⊎ (b ≡ 15))))
+run_of b k small same = subst (λ n. (n ≡ 0) ⊎ ((n ≡ 1) ⊎ ((n ≡ 3) ⊎ ((n ≡ 7) ⊎ (n ≡ 15))))) (sym same) (runs k (few_needs (4 * b) k (omega arith)))
+
+-- how many needs the need bits b announce, or none where they leave a gap
+abbrev pub Announces : ℕ → Option ℕ → Type 0
+Announces b o = MatchOption o (((k : ℕ) × (b ≡ 2 ^ k - 1)) → ⊥) (λ k. (k ≤ 4) × (b ≡ 2 ^ k - 1))
+
+-- what is in a table from pattern b on is how many needs that pattern and the next ones announce
+abbrev AllAnnounce : ℕ → List (Option ℕ) → Type 0
+AllAnnounce b [] = Unit {0}
+AllAnnounce b (o ∷ os) = Announces b o × AllAnnounce (suc b) os
+
+announced_at : (b j : ℕ) (os : List (Option ℕ)) → AllAnnounce b os → j < length os → Announces (b + j) (slice_index_or os j None)
+announced_at b j [] all inside = absurd (omega arith)
+announced_at b zero (o ∷ os) all inside = subst (λ n. Announces n o) (omega arith) all.0
+announced_at b (suc j) (o ∷ os) all inside = subst (λ n. Announces n (slice_index_or os j None)) (omega arith) (announced_at (suc b) j os all.1 (omega arith))
+
+-- the reader's table
+abbrev pub need_counts : List (Option ℕ)
+need_counts = Some 0 ∷ Some 1 ∷ None ∷ Some 2 ∷ None ∷ None ∷ None ∷ Some 3 ∷ None ∷ None ∷ None ∷ None ∷ None ∷ None ∷ None ∷ Some 4 ∷ []
+
+all_announce : AllAnnounce 0 need_counts
+all_announce =
+    ((omega arith, refl), ((omega arith, refl), (λ r. absurd (omega (arith, run_of 2 r.0 (omega arith) r.1)), ((omega arith, refl), (λ r. absurd (omega (arith, run_of 4 r.0 (omega arith) r.1)), (λ r. absurd (omega (arith, run_of 5 r.0 (omega arith) r.1)), (λ r. absurd (omega (arith, run_of 6 r.0 (omega arith) r.1)), ((omega arith, refl), (λ r. absurd (omega (arith, run_of 8 r.0 (omega arith) r.1)), (λ r. absurd (omega (arith, run_of 9 r.0 (omega arith) r.1)), (λ r. absurd (omega (arith, run_of 10 r.0 (omega arith) r.1)), (λ r. absurd (omega (arith, run_of 11 r.0 (omega arith) r.1)), (λ r. absurd (omega (arith, run_of 12 r.0 (omega arith) r.1)), (λ r. absurd (omega (arith, run_of 13 r.0 (omega arith) r.1)), (λ r. absurd (omega (arith, run_of 14 r.0 (omega arith) r.1)), ((omega arith, refl), tt))))))))))))))))
+
+pub announces : (b : ℕ) → b < 16 → Announces b (slice_index_or need_counts b None)
+announces b small = subst (λ n. Announces n (slice_index_or need_counts b None)) (zero-add b) (announced_at 0 b need_counts all_announce small)

@@ -71,19 +71,33 @@ pub struct Record {
     pub end: usize,
 }
 
-// How many needs a bit map announces, or none where its need bits leave a gap from bit 2 up. Each run of bits stands beside
-// its count: the same by `trailing_ones` and a test that no bit is left hides them.
+// How many needs each pattern of the four need bits announces, or none where it leaves a gap from the lowest up.
+const NEED_COUNTS: [Option<u8>; 16] = [
+    Some(0),
+    Some(1),
+    None,
+    Some(2),
+    None,
+    None,
+    None,
+    Some(3),
+    None,
+    None,
+    None,
+    None,
+    None,
+    None,
+    None,
+    Some(4),
+];
+
+// How many needs a bit map announces, or none where its need bits leave a gap from bit 2 up. A table, since a match is a jump that no
+// processor foresees.
+#[inline(always)]
 fn need_count(map: u8) -> Option<u8>
     ensures { MatchOption result (((k : ℕ) × (map / 4 % 16 ≡ 2 ^ k - 1)) → ⊥) (λ k. (k ≤ 4) × (map / 4 % 16 ≡ 2 ^ k - 1)) }
 {
-    match (map >> 2) & 15 {
-        0b0000 => Some(0),
-        0b0001 => Some(1),
-        0b0011 => Some(2),
-        0b0111 => Some(3),
-        0b1111 => Some(4),
-        _ => None,
-    }
+    NEED_COUNTS[usize::from((map >> 2) & 15)]
 }
 
 fn present(bit: u8, place: usize) -> Option<usize>
