@@ -26,53 +26,63 @@ get_or_needs_at bs p (suc k) (suc j) h = get_or_needs_at bs (p + 2) k j (omega a
 abbrev pub need : List ℕ → ℕ → ℕ → ℕ
 need bs p j = number_at bs (p + 2 * j) 2
 
--- need number j is above the one before it, or not
-abbrev pub Above : List ℕ → ℕ → ℕ → Type 0
-Above bs p j = need bs p (j - 1) < need bs p j
+-- the first j needs ascend, none is i, and the next one is to be at least so much
+pub record Ascending (bs : List ℕ) (p i j least : ℕ) : Type 0 where
+  pub first : j ≡ 0 → least ≡ 0
+  pub next : (k : ℕ) → k + 1 ≡ j → least ≡ need bs p k + 1
+  pub ascending : (k : ℕ) → k + 1 < j → need bs p k < need bs p (k + 1)
+  pub others : (k : ℕ) → k < j → need bs p k ≢ i
 
-abbrev pub NotAbove : List ℕ → ℕ → ℕ → Type 0
-NotAbove bs p j = need bs p j ≤ need bs p (j - 1)
+pub ascending_none : (bs : List ℕ) (p i : ℕ) → Ascending bs p i 0 0
+ascending_none bs p i = record {
+  first = λ e. refl;
+  next = λ k e. absurd (omega arith);
+  ascending = λ k h. absurd (omega arith);
+  others = λ k h. absurd (omega arith);
+}
 
--- need number j is another number than i, or i itself
-abbrev pub Other : List ℕ → ℕ → ℕ → ℕ → Type 0
-Other bs p i j = need bs p j ≢ i
+pub ascending_more : (bs : List ℕ) (p i j least n : ℕ) → Ascending bs p i j least → n ≡ need bs p j → least ≤ n → (n ≡ i → ⊥) → Ascending bs p i (j + 1) (n + 1)
+ascending_more bs p i j least n a is enough other = record {
+  first = λ e. absurd (omega arith);
+  next = λ k e. let here : k ≡ j = omega arith in omega (arith, is, ap (need bs p) here);
+  ascending = λ k h.
+      ⊎_elim (λ (l : k + 1 < j). a.ascending k l)
+      (λ (l : j ≤ k + 1). let here : k + 1 ≡ j = omega arith in omega (arith, is, a.next k here, ap (need bs p) here))
+      (cases_lt (k + 1) j);
+  others = λ k h.
+      ⊎_elim (λ (l : k < j). a.others k l)
+      (λ (l : j ≤ k). let here : k ≡ j = omega arith in λ own. other (is ∙ ap (need bs p) (sym here) ∙ own))
+      (cases_lt k j);
+}
 
-abbrev pub Own : List ℕ → ℕ → ℕ → ℕ → Type 0
-Own bs p i j = need bs p j ≡ i
-
--- what a question that was put to the numbers from a on, n of them, tells of each
-pub each_of_range : (Yes No : ℕ → Type 0) (a n : ℕ) (r : Bool) → MatchBool r (AllWithin Yes (range_with_len a n) 0 (length (range_with_len a n))) ((k : ℕ) × (k < length (range_with_len a n)) × HoldsAt No (range_with_len a n) k) → MatchBool r ((k : ℕ) → k < n → Yes (a + k)) ((k : ℕ) × (k < n) × No (a + k))
-each_of_range Yes No a n true h = λ k inside. subst Yes (get_or-range_with_len a n k 0 inside) (h k 0 (omega arith) (omega (arith, length-range_with_len a n)))
-each_of_range Yes No a n false (k, within, holds) =
-    let inside : k < n = omega (arith, length-range_with_len a n) in
-    (k, inside, subst No (get_or-range_with_len a n k 0 inside) (holds 0))
-
--- the needs at one place and the next of the list are those that are read there
-pair_at : (bs : List ℕ) (p k j : ℕ) → j < k - 1 → (get_or (needs_at bs p k) j 0 ≡ need bs p (1 + j - 1)) × (get_or (needs_at bs p k) (j + 1) 0 ≡ need bs p (1 + j))
-pair_at bs p k j inside = (
-  get_or_needs_at bs p k j (omega arith) ∙ ap (need bs p) (omega arith),
-  get_or_needs_at bs p k (j + 1) (omega arith) ∙ ap (need bs p) (omega arith),
-)
+pub ascending_done : (bs : List ℕ) (p i j k least : ℕ) → Ascending bs p i j least → k ≤ j → Ordered i (needs_at bs p k)
+ascending_done bs p i j k least a all =
+    let long = length_needs_at bs p k in
+    record {
+      ascending = λ m inside. omega (arith, a.ascending m (omega arith), get_or_needs_at bs p k m (omega arith), get_or_needs_at bs p k (m + 1) (omega arith));
+      others = All-from_get_or (λ n. n ≢ i) (needs_at bs p k) 0 (λ m inside own. a.others m (omega arith) (sym (get_or_needs_at bs p k m (omega arith)) ∙ own));
+    }
 
 -- a need that is not above the one before it
-pub not_ascending : (bs : List ℕ) (p k i j : ℕ) → j < k - 1 → NotAbove bs p (1 + j) → Ordered i (needs_at bs p k) → ⊥
-not_ascending bs p k i j inside down o = omega (arith, o.ascending j (omega (arith, length_needs_at bs p k)), pair_at bs p k j inside)
+pub not_ascending : (bs : List ℕ) (p i j k least n : ℕ) → Ascending bs p i j least → j < k → n ≡ need bs p j → n < least → Ordered i (needs_at bs p k) → ⊥
+not_ascending bs p i zero k least n a inside is low o = omega (arith, a.first refl)
+not_ascending bs p i (suc j) k least n a inside is low o =
+    let next : j + 1 ≡ suc j = omega arith in
+    omega (
+      arith,
+      is,
+      a.next j next,
+      o.ascending j (omega (arith, length_needs_at bs p k)),
+      get_or_needs_at bs p k j (omega arith),
+      get_or_needs_at bs p k (j + 1) (omega arith),
+      ap (need bs p) next,
+    )
 
--- among needs that ascend, the answer to whether each is another than i
-pub ordered_decides : (bs : List ℕ) (p k i : ℕ) (b : Bool) → ((j : ℕ) → j < k - 1 → Above bs p (1 + j)) → MatchBool b ((j : ℕ) → j < k → Other bs p i (0 + j)) ((j : ℕ) × (j < k) × Own bs p i (0 + j)) → Decides b (Ordered i (needs_at bs p k))
-ordered_decides bs p k i true up h =
-    let long = length_needs_at bs p k in (
-      λ t. record {
-        ascending = λ j inside. omega (arith, up j (omega arith), pair_at bs p k j (omega arith));
-        others = All-from_get_or (λ n. n ≢ i) (needs_at bs p k) 0 (λ j inside own. h j (omega arith) (ap (need bs p) (omega arith) ∙ sym (get_or_needs_at bs p k j (omega arith)) ∙ own));
-      },
-      λ o. refl,
-    )
-ordered_decides bs p k i false up (j, inside, own) =
-    let long = length_needs_at bs p k in (
-      λ t. absurd (false≢true t),
-      λ o. absurd (All-get_or (λ n. n ≢ i) (needs_at bs p k) j 0 (omega arith) o.others (get_or_needs_at bs p k j inside ∙ ap (need bs p) (omega arith) ∙ own)),
-    )
+-- a need of the record's own number
+pub not_other : (bs : List ℕ) (p i j k n : ℕ) → j < k → n ≡ need bs p j → n ≡ i → Ordered i (needs_at bs p k) → ⊥
+not_other bs p i j k n inside is own o =
+    let long = length_needs_at bs p k in
+    All-get_or (λ n. n ≢ i) (needs_at bs p k) j 0 (omega arith) o.others (get_or_needs_at bs p k j inside ∙ sym is ∙ own)
 
 -- what an answer for number j tells of a list
 nth_none : (ns : List ℕ) (j : ℕ) → None ≡ slice_get ns j → length ns ≤ j

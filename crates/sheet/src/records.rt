@@ -5,7 +5,7 @@ ghost use Rattle.sheet.specs.Layout.{field, laid};
 ghost use Rattle.sheet.specs.Places.{HandedOut, InTurn, amount_at, cost_place, earning_place, kind_of, needs_at};
 ghost use Rattle.sheet.specs.Sound.{InRange, Ordered};
 
-use super::bytes::{amount_at, need_at};
+use super::bytes::{amount_at, whole_need_at};
 use super::refusal::Fault;
 
 // How many entries a sheet may have, and the largest amount of an entry. The book has the same two, and does not stand on this crate.
@@ -139,13 +139,22 @@ fn amounts_in_range(sheet: &[u8], kind: Kind) -> bool
     amount_in_range(sheet, kind.earning()) && amount_in_range(sheet, kind.cost())
 }
 
-// Whether the needs of a record ascend, and none is its own number.
+// Whether the needs of a record, which the sheet has, ascend, and none is its own number.
+#[inline(always)]
 fn needs_ordered(sheet: &[u8], found: &Record) -> bool
+    requires { found.now.needs + 2 * found.now.count ≤ length sheet.now }
     ensures { Decides result (Ordered found.now.number (needs_at sheet.now found.now.needs found.now.count)) }
 {
-    let need = |j| usize::from(need_at(sheet, found.needs, j));
-    (1..found.count).all(|j| need(j - 1) < need(j))
-        && (0..found.count).all(|j| need(j) != found.number)
+    // what the next need is at least
+    let mut least = 0;
+    for j in 0..found.count {
+        let need = usize::from(whole_need_at(sheet, found.needs, j));
+        if need < least || need == found.number {
+            return false;
+        }
+        least = need + 1;
+    }
+    true
 }
 
 // The record that begins at `at` and has the number `number`, or the first fault that a question finds.
