@@ -1,12 +1,11 @@
 -- The needs of a record, read one after another.
-use Rattle.std.proofs.Common.{◌≢◌, false, subst, nat_lt, Bool, true, Option, ◌≡◌, ℕ, zero, suc, ◌+◌, ◌-◌, ◌*◌, ◌<◌, ◌≤◌, List, length, get_or, Some, None, sym, refl, ap, ◌∙◌, ⊎_elim, add-zero, arith}
+use Rattle.std.proofs.Common.{◌≢◌, nat_lt, Bool, true, Option, ◌≡◌, ℕ, zero, suc, ◌+◌, ◌-◌, ◌*◌, ◌<◌, ◌≤◌, List, length, get_or, Some, None, sym, refl, ap, ◌∙◌, ⊎_elim, add-zero, arith}
 use Rattle.std.proofs.ByRecursion.{All-get_or, All-from_get_or}
-use Rattle.std.proofs.lemmas.Bool.{cases_lt, false≢true}
+use Rattle.std.proofs.lemmas.Bool.{cases_lt}
 use Rattle.std.proofs.lemmas.Option.{slice_get-get_or, slice_get_past}
-use Rattle.std.proofs.lemmas.List.FromFn.{length-range_with_len, get_or-range_with_len}
-use Rattle.std.specs.Bool.{Decides, MatchBool, then_some}
+use Rattle.std.specs.Bool.{Decides, then_some}
 use Rattle.std.specs.Option.{MatchOption}
-use Rattle.std.specs.List.{AllWithin, HoldsAt, range_with_len, slice_get}
+use Rattle.std.specs.List.{slice_get}
 use Rattle.sheet.specs.Format.{Entry}
 use Rattle.sheet.specs.Places.{number_at, needs_at}
 use Rattle.sheet.specs.Sound.{Ordered, There}

@@ -19,6 +19,7 @@ pub struct Reader<'a> {
 
 impl<'a> Reader<'a> {
     // A reader that stands before the first record.
+    #[inline(always)]
     pub fn new(sheet: &'a [u8]) -> Reader<'a>
         ensures sheet { sheet_of result ≡ sheet.now }
         ensures cursor { cursor result ≡ start }
@@ -31,6 +32,7 @@ impl<'a> Reader<'a> {
     }
 
     // The next record, or none at the sheet's end. A record that is refused leaves the cursor where it is.
+    #[inline(always)]
     pub fn next(&mut self) -> Result<Option<Record>, SheetRefusal>
         ensures sheet { sheet_of self.new ≡ sheet_of self.old }
         ensures handed { Handed (sheet_of self.old) (cursor self.old) (cursor self.new) result }
@@ -51,6 +53,7 @@ impl<'a> Reader<'a> {
     }
 
     // The amount at a place, and 0 where there is no place.
+    #[inline(always)]
     fn amount(&self, place: Option<usize>) -> u32
         ensures { result ≡ amount (amount_at (sheet_of self.now) place) }
     {
@@ -58,6 +61,7 @@ impl<'a> Reader<'a> {
     }
 
     // What the entry earns that stands at the places of a record; 0 where it has no earning.
+    #[inline(always)]
     pub fn earning(&self, found: &Record) -> u32
         ensures { result ≡ amount (entry_at (sheet_of self.now) found.now).earning }
     {
@@ -66,6 +70,7 @@ impl<'a> Reader<'a> {
 
     // What the entry costs that stands at the places of a record; 0 where it has no cost. It and `earning` are both public, and what
     // they share is `amount`.
+    #[inline(always)]
     pub fn cost(&self, found: &Record) -> u32
         ensures { result ≡ amount (entry_at (sheet_of self.now) found.now).cost }
     {
@@ -73,6 +78,7 @@ impl<'a> Reader<'a> {
     }
 
     // Need number `j` of the entry that stands at the places of a record; none past its last need.
+    #[inline(always)]
     pub fn need(&self, found: &Record, j: u8) -> Option<usize>
         ensures { result ≡ slice_get (entry_at (sheet_of self.now) found.now).needs j }
     {

@@ -24,6 +24,7 @@ pub enum Kind {
 }
 
 impl Kind {
+    #[inline(always)]
     fn of(earning: Option<usize>, cost: Option<usize>) -> Kind
         ensures { result ≡ kind_of earning cost }
     {
@@ -36,6 +37,7 @@ impl Kind {
     }
 
     // The place of the earning, where there is one. It and the cost's go by their own names, and each reads its own variants.
+    #[inline(always)]
     pub(crate) fn earning(self) -> Option<usize>
         ensures { result ≡ earning_place self }
     {
@@ -46,6 +48,7 @@ impl Kind {
     }
 
     // The place of the cost, where there is one.
+    #[inline(always)]
     pub(crate) fn cost(self) -> Option<usize>
         ensures { result ≡ cost_place self }
     {
@@ -100,6 +103,7 @@ fn need_count(map: u8) -> Option<u8>
     NEED_COUNTS[usize::from((map >> 2) & 15)]
 }
 
+#[inline(always)]
 fn present(bit: u8, place: usize) -> Option<usize>
     ensures { result ≡ field bit place }
 {
@@ -107,6 +111,7 @@ fn present(bit: u8, place: usize) -> Option<usize>
 }
 
 // Where the fields stand of a record that begins at `byte` with the bit map `map`.
+#[inline(always)]
 fn layout(number: usize, byte: usize, map: u8, count: u8) -> Record
     requires { byte < 2 ^ 63 }
     ensures { result ≡ laid number byte map count }
@@ -127,12 +132,14 @@ fn layout(number: usize, byte: usize, map: u8, count: u8) -> Record
 }
 
 // Whether the amount at a place, if it has one, is between 1 and the largest.
+#[inline(always)]
 fn amount_in_range(sheet: &[u8], place: Option<usize>) -> bool
     ensures { Decides result (InRange (amount_at sheet.now place)) }
 {
     place.is_none_or(|at| (1..=MOST_AMOUNT).contains(&amount_at(sheet, at)))
 }
 
+#[inline(always)]
 fn amounts_in_range(sheet: &[u8], kind: Kind) -> bool
     ensures { Decides result (InRange (amount_at sheet.now (earning_place kind)) × InRange (amount_at sheet.now (cost_place kind))) }
 {
@@ -159,6 +166,7 @@ fn needs_ordered(sheet: &[u8], found: &Record) -> bool
 
 // The record that begins at `at` and has the number `number`, or the first fault that a question finds.
 // No method of the reader: that was tried, and a proof there does not know that what its slice holds are bytes.
+#[inline(always)]
 pub(crate) fn record_at(sheet: &[u8], number: usize, at: usize) -> Result<Record, Fault>
     requires { at < length sheet.now }
     ensures { MatchResult result (λ found. HandedOut sheet.now (record { at = at; number = number }) (record { at = found.end; number = number + 1 }) found × InTurn sheet.now (record { at = at; number = number }) (Ok (Some found))) (λ fault. First fault number (drop at sheet.now)) }

@@ -1,4 +1,4 @@
-use Rattle.std.proofs.Common.{refl, ◌∙◌, arith}
+use Rattle.std.proofs.Common.{refl, ◌∙◌}
 use Rattle.std.proofs.lemmas.Bool.{false≢true}
 use Rattle.sheet.proofs.Needs.{ascending_none, ascending_more, ascending_done, not_ascending, not_other}
 use Rattle.sheet.proofs.records.needs_ordered.Goals as goal
