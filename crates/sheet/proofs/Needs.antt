@@ -1,11 +1,10 @@
 -- The needs of a record, read one after another.
-use Rattle.std.proofs.Common.{◌≢◌, nat_lt, Bool, true, Option, ◌≡◌, ℕ, zero, suc, ◌+◌, ◌-◌, ◌*◌, ◌<◌, ◌≤◌, List, length, get_or, Some, None, sym, refl, ap, ◌∙◌, ⊎_elim, add-zero, arith}
+use Rattle.std.proofs.Common.{◌≢◌, nat_lt, [], ◌∷◌, ◌≡◌, ℕ, zero, suc, ◌+◌, ◌-◌, ◌*◌, ◌<◌, ◌≤◌, List, length, get_or, sym, refl, ap, ◌∙◌, ⊎_elim, add-zero, arith}
 use Rattle.std.proofs.ByRecursion.{All-get_or, All-from_get_or}
 use Rattle.std.proofs.lemmas.Bool.{cases_lt}
 use Rattle.std.proofs.lemmas.Option.{slice_get-get_or, slice_get_past}
-use Rattle.std.specs.Bool.{Decides, then_some}
-use Rattle.std.specs.Option.{MatchOption}
-use Rattle.std.specs.List.{slice_get}
+use Rattle.std.specs.Bool.{then_some}
+use Rattle.std.specs.List.{AllByRecursion, slice_get}
 use Rattle.sheet.specs.Format.{Entry}
 use Rattle.sheet.specs.Places.{number_at, needs_at}
 use Rattle.sheet.specs.Sound.{Ordered, There}
@@ -83,14 +82,6 @@ not_other bs p i j k n inside is own o =
     let long = length_needs_at bs p k in
     All-get_or (λ n. n ≢ i) (needs_at bs p k) j 0 (omega arith) o.others (get_or_needs_at bs p k j inside ∙ sym is ∙ own)
 
--- what an answer for number j tells of a list
-nth_none : (ns : List ℕ) (j : ℕ) → None ≡ slice_get ns j → length ns ≤ j
-nth_none ns j is = grind (arith, slice_get-get_or ns j 0, cases_lt j (length ns))
-
-nth_some : (ns : List ℕ) (j x : ℕ) → Some x ≡ slice_get ns j → (j < length ns) × (x ≡ get_or ns j 0)
-nth_some ns j x is =
-    ⊎_elim (λ (l : j < length ns). (l, let some = slice_get-get_or ns j 0 l in cc)) (λ (l : length ns ≤ j). let none = slice_get_past ns j l in let z : ◌≡◌ {A = ℕ} 0 1 = cc in absurd (omega arith)) (cases_lt j (length ns))
-
 -- needs that ascend are at most the last one
 ascends : (i : ℕ) (ns : List ℕ) → Ordered i ns → (k d : ℕ) → k + d < length ns → get_or ns k 0 ≤ get_or ns (k + d) 0
 ascends i ns o k zero inside = omega (arith, ap (λ j. get_or ns j 0) (add-zero k))
@@ -102,14 +93,24 @@ ascends i ns o k (suc d) inside =
 pub slice_get_needs_at : (bs : List ℕ) (p k j : ℕ) → slice_get (needs_at bs p k) j ≡ then_some (nat_lt j k) (number_at bs (p + 2 * j) 2)
 slice_get_needs_at bs p k j = grind (arith, length_needs_at bs p k, get_or_needs_at bs p k j, slice_get-get_or (needs_at bs p k) j 0, slice_get_past (needs_at bs p k) j, cases_lt j k)
 
--- the last need tells whether the entries of all are there
-pub last_decides : (n i : ℕ) (e : Entry) (last : Option ℕ) (b : Bool) → Ordered i e.needs → last ≡ slice_get e.needs (length e.needs - 1) → MatchOption last (b ≡ true) (λ x. Decides b (x < n)) → Decides b (There n e)
-last_decides n i e None b o is h =
-    let none = nth_none e.needs (length e.needs - 1) is in
-    (λ t. All-from_get_or (λ k. k < n) e.needs 0 (λ k inside. absurd (omega arith)), λ t. h)
-last_decides n i e (Some x) b o is h =
-    let j = length e.needs - 1 in
-    let (inside, value) = nth_some e.needs j x is in (
-      λ t. let below = h.0 t in All-from_get_or (λ k. k < n) e.needs 0 (λ k at. let end : k + (j - k) ≡ j = omega arith in omega (arith, ascends i e.needs o k (j - k) (omega arith), ap (λ m. get_or e.needs m 0) end)),
-      λ there. h.1 (omega (arith, All-get_or (λ k. k < n) e.needs j 0 inside there)),
-    )
+-- the last need is the highest, and 0 stands for it where there is none
+pub last_is_highest : (i n h : ℕ) (ns : List ℕ) → Ordered i ns → h ≡ get_or ns (length ns - 1) 0 → h < n → AllByRecursion (λ k. k < n) ns
+last_is_highest i n h ns o is above =
+    let last = length ns - 1 in
+    All-from_get_or (λ k. k < n) ns 0 (λ k inside.
+    let end : k + (last - k) ≡ last = omega arith in
+    omega (arith, is, ascends i ns o k (last - k) (omega arith), ap (λ m. get_or ns m 0) end))
+
+pub highest_is_there : (n h : ℕ) (ns : List ℕ) → h ≡ get_or ns (length ns - 1) 0 → 0 < n → AllByRecursion (λ k. k < n) ns → h < n
+highest_is_there n h [] is some there = omega (arith, is)
+highest_is_there n h (x ∷ ns) is some there =
+    let long : length (x ∷ ns) - 1 < length (x ∷ ns) = omega arith in
+    omega (arith, is, All-get_or (λ k. k < n) (x ∷ ns) (length (x ∷ ns) - 1) 0 long there)
+
+-- the more entries there are, the more needs are there
+pub there_more : (m n : ℕ) (es : List Entry) → m ≤ n → AllByRecursion (There m) es → AllByRecursion (There n) es
+there_more m n [] more all = tt
+there_more m n (e ∷ es) more all = (
+  All-from_get_or (λ k. k < n) e.needs 0 (λ k inside. omega (arith, All-get_or (λ j. j < m) e.needs k 0 inside all.0)),
+  there_more m n es more all.1,
+)

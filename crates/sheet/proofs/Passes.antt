@@ -1,5 +1,5 @@
 -- The two passes over a sheet: what each knows between two turns.
-use Rattle.std.proofs.Common.{◌≡◌, ℕ, suc, ◌+◌, ◌*◌, ◌≤◌, List, [], ◌∷◌, ◌++◌, length, drop, Ok, Err, Result, sym, refl, ap, ◌∙◌, subst, arith}
+use Rattle.std.proofs.Common.{◌≡◌, ℕ, suc, ◌+◌, ◌*◌, ◌<◌, ◌≤◌, List, [], ◌∷◌, ◌++◌, length, drop, Ok, Err, Result, sym, refl, ap, ◌∙◌, subst, arith}
 use Rattle.std.proofs.ByRecursion.{All-push}
 use Rattle.std.proofs.lemmas.List.{append_assoc, length_push}
 use Rattle.std.specs.List.{AllByRecursion}
@@ -12,8 +12,9 @@ use Rattle.sheet.specs.Sound.{Fits, Sound, Numbered, There, need_count, counts}
 use Rattle.sheet.specs.Answers.{SoundSheet, Answers}
 use Rattle.sheet.specs.Places.{entry_at, Cursor, start, HandedOut, Refused}
 use Rattle.sheet.proofs.Entries.{entry_same}
-use Rattle.sheet.specs.Wholes.{Counted, TheAnswer}
-use Rattle.sheet.proofs.Sheets.{not_nothing, one_list, one_answer, accepted}
+use Rattle.sheet.specs.Wholes.{Counted, Tallied, TheAnswer}
+use Rattle.sheet.proofs.Needs.{there_more}
+use Rattle.sheet.proofs.Sheets.{not_nothing, one_list, one_answer, some_entries, accepted}
 use Rattle.sheet.proofs.Turns.{Progress, progress_none, progress_more, progress_done, progress_fault, reads_list}
 
 need_count_push : (es : List Entry) (e : Entry) → need_count (es ++ e ∷ []) ≡ need_count es + length e.needs
@@ -30,37 +31,52 @@ settled bs r a = record {
   reads_list = λ ds es. reads_list bs es ds;
 }
 
--- the first pass: what it has read, and how many entries and needs that is
-pub record Counting (bs : List ℕ) (from : Cursor) (n : Counts) : Type 0 where
+-- the first pass: what it has read, how many entries and needs that is, and the highest of the needs
+pub record Counting (bs : List ℕ) (from : Cursor) (n : Counts) (highest : ℕ) : Type 0 where
   pub read : List Entry
   pub progress : Progress bs read from
   pub entries_are : n.entries ≡ length read
   pub needs_are : n.needs ≡ need_count read
   pub few : n.needs ≤ 4 * n.entries
+  pub there : AllByRecursion (There (highest + 1)) read
 
-pub counting_none : (bs : List ℕ) (from : Cursor) (n : Counts) → from ≡ start → n.entries ≡ 0 → n.needs ≡ 0 → Counting bs from n
-counting_none bs from n begins entries needs = record { read = []; progress = rw begins (progress_none bs); entries_are = entries; needs_are = needs; few = omega arith }
+pub counting_none : (bs : List ℕ) (from : Cursor) (n : Counts) → from ≡ start → n.entries ≡ 0 → n.needs ≡ 0 → Counting bs from n 0
+counting_none bs from n begins entries needs = record { read = []; progress = rw begins (progress_none bs); entries_are = entries; needs_are = needs; few = omega arith; there = tt }
 
-pub counting_more : (bs : List ℕ) (from to : Cursor) (n : Counts) (r : Record) → Counting bs from n → HandedOut bs from to r → Counting bs to (record { entries = n.entries + 1; needs = n.needs + r.count })
-counting_more bs from to n r c h =
+pub counting_more : (bs : List ℕ) (from to : Cursor) (n : Counts) (h k m : ℕ) (r : Record) → Counting bs from n h → HandedOut bs from to r → ((n : ℕ) → k < n → There n (entry_at bs r)) → h ≤ m → k ≤ m → Counting bs to (record { entries = n.entries + 1; needs = n.needs + r.count }) m
+counting_more bs from to n h k m r c out own above above_own =
     let e = entry_at bs r in
-    let count : r.count ≡ length e.needs = ap (λ (x : Record). x.count) h.places in
-    let few = h.sound.fits.few in
+    let count : r.count ≡ length e.needs = ap (λ (x : Record). x.count) out.places in
+    let few = out.sound.fits.few in
     record {
       read = c.read ++ e ∷ [];
-      progress = progress_more bs c.read from to r c.progress h;
+      progress = progress_more bs c.read from to r c.progress out;
       entries_are = omega (arith, c.entries_are, length_push c.read e);
       needs_are = omega (arith, c.needs_are, need_count_push c.read e);
       few = omega (arith, c.few);
+      there = All-push (There (m + 1)) c.read e (there_more (h + 1) (m + 1) c.read (omega arith) c.there) (own (m + 1) (omega arith));
     }
 
-pub counting_done : (bs : List ℕ) (from : Cursor) (n : Counts) → Counting bs from n → (bs ≡ [] → ⊥) → length bs ≤ from.at → Counted bs n
-counting_done bs from n c some end = record {
-  entries = c.read;
-  sheet = progress_done bs c.read from c.progress end;
-  some = some;
-  are = λ i. record { entries = c.entries_are i; needs = c.needs_are i };
+pub counting_done : (bs : List ℕ) (from : Cursor) (n : Counts) (h : ℕ) → Counting bs from n h → (bs ≡ [] → ⊥) → length bs ≤ from.at → Tallied bs n h
+counting_done bs from n h c some end = record {
+  counted = record {
+    entries = c.read;
+    sheet = progress_done bs c.read from c.progress end;
+    some = some;
+    are = λ i. record { entries = c.entries_are i; needs = c.needs_are i };
+  };
+  there = c.there;
 }
+
+-- where the highest need is there, all are, and the sheet is accepted
+pub all_there : (bs : List ℕ) (c : Counts) (h : ℕ) → Tallied bs c h → h < c.entries → TheAnswer bs (Ok c)
+all_there bs c h t inside =
+    let k = t.counted in
+    settled bs (Ok c) (accepted bs c k.some (k.entries, k.sheet, k.are) (k.entries, k.sheet, there_more (h + 1) c.entries k.entries (omega arith) t.there))
+
+-- a sheet that has a byte has an entry
+pub some_counted : (bs : List ℕ) (c : Counts) → Counted bs c → 0 < c.entries
+some_counted bs c k = omega (arith, some_entries bs k.entries k.some k.sheet.whole, ap (λ (n : Counts). n.entries) k.are)
 
 -- records that were read are the first of all
 rest_of : (i : ℕ) (ds es : List Entry) (e : Entry) (t : List ℕ) → Numbered Sound i ds → Fits e → Numbered Sound i es → sheet_bytes ds ++ (entry_bytes e ++ t) ≡ sheet_bytes es → (after : List Entry) × (es ≡ ds ++ e ∷ after)

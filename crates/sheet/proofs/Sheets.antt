@@ -229,7 +229,7 @@ one_answer bs (Err (Missing i p)) (Err (Missing j q)) x y = ap Err (same_missing
 pub sound_same : (bs : List ℕ) (ds es : List Entry) → SoundSheet bs ds → SoundSheet bs es → ds ≡ es
 sound_same bs ds es x y = (parsed_same bs ds es [] [] (all_sound bs ds x.whole x.sound) (all_sound bs es y.whole y.sound)).0
 
-some_entries : (bs : List ℕ) (es : List Entry) → (bs ≡ [] → ⊥) → bs ≡ sheet_bytes es → 0 < length es
+pub some_entries : (bs : List ℕ) (es : List Entry) → (bs ≡ [] → ⊥) → bs ≡ sheet_bytes es → 0 < length es
 unfolding sheet_bytes
 some_entries bs [] some whole = absurd (some whole)
 some_entries bs (e ∷ es) some whole = omega arith

@@ -1,9 +1,10 @@
 -- What reading a whole sheet promises.
-use Rattle.std.specs.Prelude.{◌≡◌, ℕ, ◌≤◌, List, [], length, Ok, Result}
+use Rattle.std.specs.Prelude.{◌≡◌, ℕ, ◌+◌, ◌≤◌, List, [], length, Ok, Result}
 use Rattle.sheet.specs.declared.Counts.{Counts}
 use Rattle.sheet.specs.declared.refusal.SheetRefusal.{SheetRefusal}
 use Rattle.sheet.specs.Format.{Entry}
-use Rattle.sheet.specs.Sound.{counts}
+use Rattle.std.specs.List.{AllByRecursion}
+use Rattle.sheet.specs.Sound.{There, counts}
 use Rattle.sheet.specs.Answers.{SoundSheet, SheetOf, Answers}
 use Rattle.sheet.specs.Places.{Cursor, start, HandsOut}
 
@@ -22,3 +23,8 @@ pub record Counted (bs : List ℕ) (c : Counts) : Type 0 where
   pub sheet : SoundSheet bs entries
   pub some : bs ≡ [] → ⊥
   pub are : c ≡ counts entries
+
+-- the same, and none of the records needs an entry of a number above the highest
+pub record Tallied (bs : List ℕ) (c : Counts) (highest : ℕ) : Type 0 where
+  pub counted : Counted bs c
+  pub there : AllByRecursion (There (highest + 1)) counted.entries

@@ -1,11 +1,10 @@
-use Rattle.std.proofs.Common.{Some, None, Ok, Err, sym, refl, ap, ◌∙◌, subst}
+use Rattle.std.proofs.Common.{Some, None, Ok, Err, sym, refl, ap, ◌∙◌, subst, arith}
 use Rattle.std.proofs.lemmas.Result.{err_from_is_err_and}
-use Rattle.std.proofs.lemmas.Bool.{false≢true}
 use Rattle.sheet.specs.Places.{entry_at, HandedOut}
 use Rattle.sheet.specs.Readers.{cursor}
 use Rattle.sheet.specs.Sound.{There}
 use Rattle.sheet.proofs.Turns.{handed_at, turn_falls}
-use Rattle.sheet.proofs.Passes.{Checking, checking_none, checking_more, checking_missing, checking_done, fault_answers}
+use Rattle.sheet.proofs.Passes.{some_counted, Checking, checking_none, checking_more, checking_missing, checking_done, fault_answers}
 use Rattle.sheet.proofs.whole.find_missing.Goals as goal
 use Rattle.sheet.proofs.whole.find_missing.Goals.{In-Some}
 
@@ -25,14 +24,16 @@ pub loop-found-preserved : goal.loop-found-preserved
 loop-found-preserved c =
     let same = c.in_ok-found.ensures.sheet ∙ c.loop-found.invariant.0 in (
       same,
-      checking_more _ _ _ _ _ c.loop-found.invariant.1 (turn (goal.at.loop-found-preserved c).In-Some) (subst (λ bs. There c.args.counts.entries (entry_at bs c.in-Some.found)) same (c.if-not-needs_there.ensures.0 refl)),
+      checking_more _ _ _ _ _ c.loop-found.invariant.1 (turn (goal.at.loop-found-preserved c).In-Some) (subst (λ bs. There c.args.counts.entries (entry_at bs c.in-Some.found)) same (c.highest_need.ensures.there _ c.if-highest_need-counts.false)),
     )
 
-pub returns-then-not-needs_there : goal.returns-then-not-needs_there
-returns-then-not-needs_there c =
+pub returns-then-highest_need-counts : goal.returns-then-highest_need-counts
+returns-then-highest_need-counts c =
     let same = c.in_ok-found.ensures.sheet ∙ c.loop-found.invariant.0 in
-    checking_missing _ c.args.counts _ _ _ c.requires c.loop-found.invariant.1 (turn (goal.at.returns-then-not-needs_there c).In-Some)
-    (λ there. false≢true (c.if-not-needs_there.ensures.1 (subst (λ bs. There c.args.counts.entries (entry_at bs c.in-Some.found)) (sym same) there)))
+    checking_missing _ c.args.counts _ _ _ c.requires c.loop-found.invariant.1 (turn (goal.at.returns-then-highest_need-counts c).In-Some)
+    (λ there.
+    let below = c.highest_need.ensures.least _ (some_counted _ _ c.requires) (subst (λ bs. There c.args.counts.entries (entry_at bs c.in-Some.found)) (sym same) there) in
+    omega (arith, below, c.if-highest_need-counts.true))
 
 pub returns-in_err-found : goal.returns-in_err-found
 returns-in_err-found c =
