@@ -1,6 +1,6 @@
 -- The bits of a bit map.
 use Rattle.std.proofs.Common.{◌≡◌, ℕ, zero, suc, ◌+◌, ◌-◌, ◌*◌, ◌/◌, ◌%◌, ◌^◌, ◌<◌, ◌≤◌, ◌⊎◌, List, [], ◌∷◌, Some, None, Option, length, slice_index_or, refl, sym, subst, zero-add, inl, inr, ⊎_elim, arith, pow_mono}
-use Rattle.std.specs.Option.{MatchOption}
+use Rattle.std.specs.Option.{MatchOption, unwrap_or}
 use lib.Bits.{bit_and}
 use Rattle.std.proofs.lemmas.Nat.{and_mask, shr-shr, div-add-mod'}
 use Rattle.std.proofs.lemmas.Bool.{cases_lt}
@@ -62,3 +62,8 @@ all_announce =
 
 pub announces : (b : ℕ) → b < 16 → Announces b (slice_index_or need_counts b None)
 announces b small = subst (λ n. Announces n (slice_index_or need_counts b None)) (zero-add b) (announced_at 0 b need_counts all_announce small)
+
+-- where they leave no gap, they announce some
+pub announces_run : (b : ℕ) (o : Option ℕ) → Announces b o → (k : ℕ) × (b ≡ 2 ^ k - 1) → (unwrap_or o 0 ≤ 4) × (b ≡ 2 ^ unwrap_or o 0 - 1)
+announces_run b None gap run = absurd (gap run)
+announces_run b (Some k) is run = is

@@ -1,16 +1,19 @@
 -- The questions put to the record that begins at one place, by the places that its bit map lays.
-use Rattle.std.proofs.Common.{◌≡◌, ℕ, ◌+◌, ◌-◌, ◌/◌, ◌%◌, ◌^◌, ◌<◌, ◌≤◌, List, ◌++◌, length, get_or, drop, sym, refl, ap, ◌∙◌, subst, add-zero, arith}
+use Rattle.std.proofs.Common.{◌≡◌, ℕ, ◌+◌, ◌-◌, ◌/◌, ◌%◌, ◌^◌, ◌<◌, ◌≤◌, List, Option, ◌++◌, length, get_or, drop, sym, refl, ap, ◌∙◌, subst, ⊎_elim, add-zero, arith}
 use Rattle.std.proofs.lemmas.List.{get_or-drop, length-drop, length-append}
+use Rattle.std.proofs.lemmas.Bool.{cases_lt}
+use Rattle.std.specs.Option.{unwrap_or}
 use Rattle.sheet.specs.declared.records.Record.{Record}
-use Rattle.sheet.specs.declared.refusal.Fault.TheVariants.{NeedGap, CutShort, AmountRange, NeedOrder}
+use Rattle.sheet.specs.declared.refusal.Fault.TheVariants.{HighBits, NeedGap, CutShort, AmountRange, NeedOrder}
 use Rattle.sheet.specs.Format.{Entry, bit_map, entry_bytes}
 use Rattle.sheet.specs.Sound.{Fits, InRange, Ordered}
 use Rattle.sheet.specs.Answers.{Begins, Free, First}
-use Rattle.sheet.specs.Places.{entry_at, placed, HandedOut}
+use Rattle.sheet.specs.Places.{entry_at, placed, HandedOut, SoundAhead}
 use Rattle.sheet.specs.Layout.{laid, size}
 use Rattle.sheet.proofs.Entries.{same_kind, length_entry, entry_same}
+use Rattle.sheet.proofs.Maps.{Announces, announces_run}
 use Rattle.sheet.proofs.Numbers.{Bytes}
-use Rattle.sheet.proofs.Sheets.{first_byte}
+use Rattle.sheet.proofs.Sheets.{first_byte, sound_free}
 use Rattle.sheet.proofs.Standing.{laid_fits, laid_map, laid_size, laid_places, laid_stands, stands_there}
 
 -- the record r at p, laid by the bit map m with k needs
@@ -110,3 +113,21 @@ module _ (bs : List ℕ) (i p : ℕ) (r : Record) (l : Laid bs i p r) where
       inside = inside;
       number = refl;
     }
+
+-- the record that the need bits o lay at p, of those that a sound record has there
+pub laid_sound : (bs : List ℕ) (i p : ℕ) (o : Option ℕ) (r : Record) → Bytes bs → p < length bs → Announces (get_or bs p 0 / 4 % 16) o → r ≡ laid i p (get_or bs p 0) (unwrap_or o 0) → SoundAhead bs (record { at = p; number = i }) → Laid bs i p r
+laid_sound bs i p o r small start announced is a =
+    let free = sound_free i (drop p bs) a.entry a.tail a.sound a.whole in
+    let gapless = free NeedGap in
+    let head = head_at bs p in
+    let run = announces_run (get_or bs p 0 / 4 % 16) o announced (gapless.0, ap (λ m. m / 4 % 16) (sym head) ∙ gapless.1) in
+    laid_is bs i p (get_or bs p 0) (unwrap_or o 0) r small start a.sound.within refl (omega (arith, head, free HighBits)) run.1 run.0 is
+
+-- where a sound record stands, the record that its bit map laid is handed out
+pub sound_out : (bs : List ℕ) (i p : ℕ) (r : Record) → Laid bs i p r → SoundAhead bs (record { at = p; number = i }) → HandedOut bs (record { at = p; number = i }) (record { at = r.end; number = i + 1 }) r
+sound_out bs i p r l a =
+    let free = sound_free i (drop p bs) a.entry a.tail a.sound a.whole in
+    let inside : r.end ≤ length bs = ⊎_elim (λ (cut : length bs < r.end). absurd ((cut_short bs i p r l cut).fails (free CutShort))) (λ (h : r.end ≤ length bs). h) (cases_lt (length bs) r.end) in
+    let is = only bs i p r l inside a.entry (record { fits = a.sound.fits; tail = a.tail; whole = a.whole }) in
+    handed_out bs i p r l inside (subst (λ d. InRange d.earning) is a.sound.earning) (subst (λ d. InRange d.cost) is a.sound.cost)
+    (subst (λ n. Ordered n (entry_at bs r).needs) (sym (number bs i p r l)) (subst (λ d. Ordered i d.needs) is a.sound.ordered))

@@ -1,5 +1,5 @@
 -- A record told as places in the sheet, and the entry that stands there.
-use Rattle.std.specs.Prelude.{◌≡◌, ℕ, zero, suc, ◌+◌, ◌*◌, ◌<◌, ◌≤◌, List, [], ◌∷◌, ◌++◌, length, drop, Some, None, Ok, Err, Option, Result, slice_index}
+use Rattle.std.specs.Prelude.{◌≡◌, ℕ, zero, suc, ◌+◌, ◌*◌, ◌<◌, ◌≤◌, ◌⊎◌, List, [], ◌∷◌, ◌++◌, length, drop, Some, None, Ok, Err, Option, Result, slice_index}
 use Rattle.std.specs.Option.{option_map}
 use Rattle.sheet.specs.declared.records.Kind.{Kind}
 use Rattle.sheet.specs.declared.records.Kind.TheVariants.{Bare, Earns, Costs, Both}
@@ -108,6 +108,17 @@ abbrev pub Handed : List ℕ → Cursor → Cursor → Result (Option Record) Sh
 Handed bs from to (Ok None) = (length bs ≤ from.at) × (to ≡ from)
 Handed bs from to (Ok (Some r)) = HandedOut bs from to r
 Handed bs from to (Err x) = Refused bs from to x
+
+-- a sound record stands next
+pub record SoundAhead (bs : List ℕ) (from : Cursor) : Type 0 where
+  pub entry : Entry
+  pub tail : List ℕ
+  pub sound : Sound from.number entry
+  pub whole : drop from.at bs ≡ entry_bytes entry ++ tail
+
+-- no question would refuse what stands next: it is a sound record, or the sheet's end
+abbrev pub NoneRefused : List ℕ → Cursor → Type 0
+NoneRefused bs from = (length bs ≤ from.at) ⊎ SoundAhead bs from
 
 -- where the sound record of e stands next, it is handed out, and e is what stands at its places
 abbrev pub InTurn : List ℕ → Cursor → Result (Option Record) SheetRefusal → Type 0

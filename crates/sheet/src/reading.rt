@@ -1,11 +1,11 @@
 // A reader: a cursor over a borrowed sheet that hands out its records, one after another, and copies nothing.
-ghost use Rattle.std.specs.Prelude.{◌≡◌};
+ghost use Rattle.std.specs.Prelude.{◌≡◌, Ok};
 ghost use Rattle.std.specs.List.{slice_get};
-ghost use Rattle.sheet.specs.Places.{Handed, InTurn, amount, amount_at, entry_at, start};
+ghost use Rattle.sheet.specs.Places.{Handed, InTurn, NoneRefused, amount, amount_at, entry_at, start};
 ghost use Rattle.sheet.specs.Readers.{sheet_of, cursor};
 
 use super::bytes::{amount_at, need_at};
-use super::records::{Record, record_at};
+use super::records::{Record, record_at, sound_record_at};
 use super::refusal::SheetRefusal;
 
 // No `Iterator`: at a record that is refused it would hand out the same refusal for ever.
@@ -50,6 +50,23 @@ impl<'a> Reader<'a> {
         self.at = found.end;
         self.number += 1;
         Ok(Some(found))
+    }
+
+    // The next record of a sheet that is known to be sound, or none at its end: as `next` answers, and no question is put to the record.
+    // Where no sound record stands next, what is handed out means nothing.
+    #[inline(always)]
+    pub fn next_sound(&mut self) -> Option<Record>
+        ensures sheet { sheet_of self.new ≡ sheet_of self.old }
+        ensures handed { NoneRefused (sheet_of self.old) (cursor self.old) → Handed (sheet_of self.old) (cursor self.old) (cursor self.new) (Ok result) }
+        ensures in_turn { InTurn (sheet_of self.old) (cursor self.old) (Ok result) }
+    {
+        if self.at >= self.sheet.len() {
+            return None;
+        }
+        let found = sound_record_at(self.sheet, self.number, self.at);
+        self.at = found.end;
+        self.number = self.number.saturating_add(1);
+        Some(found)
     }
 
     // The amount at a place, and 0 where there is no place.

@@ -2,7 +2,7 @@
 ghost use Rattle.std.specs.Prelude.{◌≡◌, ℕ, ◌+◌, ◌-◌, ◌*◌, ◌/◌, ◌%◌, ◌^◌, ◌<◌, ◌≤◌, length, drop, Some, Ok, Decides, MatchOption, MatchResult};
 ghost use Rattle.sheet.specs.Answers.{First};
 ghost use Rattle.sheet.specs.Layout.{field, laid};
-ghost use Rattle.sheet.specs.Places.{HandedOut, InTurn, amount_at, cost_place, earning_place, kind_of, needs_at};
+ghost use Rattle.sheet.specs.Places.{HandedOut, InTurn, SoundAhead, amount_at, cost_place, earning_place, kind_of, needs_at};
 ghost use Rattle.sheet.specs.Sound.{InRange, Ordered};
 
 use super::bytes::{amount_at, whole_need_at};
@@ -190,4 +190,14 @@ pub(crate) fn record_at(sheet: &[u8], number: usize, at: usize) -> Result<Record
         return Err(Fault::NeedOrder);
     }
     Ok(found)
+}
+
+// The record that begins at `at` and has the number `number`, where it is known to be sound, so that no question is put to it.
+#[inline(always)]
+pub(crate) fn sound_record_at(sheet: &[u8], number: usize, at: usize) -> Record
+    requires { at < length sheet.now }
+    ensures { SoundAhead sheet.now (record { at = at; number = number }) → HandedOut sheet.now (record { at = at; number = number }) (record { at = result.end; number = number + 1 }) result }
+{
+    let map = sheet[at];
+    layout(number, at, map, need_count(map).unwrap_or(0))
 }
