@@ -1,16 +1,14 @@
 -- Where a reader of a known list stands, and what it hands out.
-use Rattle.std.proofs.Common.{◌≡◌, ℕ, zero, suc, ◌+◌, ◌<◌, ◌≤◌, true, List, [], ◌∷◌, ◌++◌, length, get_or, drop, None, Ok, Err, Option, Result, sym, refl, ap, ◌∙◌, subst, ⊎_elim, add-zero, arith}
-use Rattle.std.specs.Result.{is_ok}
+use Rattle.std.proofs.Common.{◌≡◌, ℕ, zero, suc, ◌+◌, ◌<◌, ◌≤◌, List, [], ◌∷◌, ◌++◌, length, get_or, drop, None, Ok, Option, sym, ap, ◌∙◌, subst, inl, inr, ⊎_elim, add-zero, arith}
 use Rattle.std.proofs.lemmas.Bool.{cases_lt}
 use Rattle.std.proofs.lemmas.List.{length-append, length-drop, drop_all, drop_more}
 use Rattle.sheet.specs.declared.records.Record.{Record}
-use Rattle.sheet.specs.declared.refusal.SheetRefusal.{SheetRefusal}
 use Rattle.sheet.specs.Format.{Entry, entry_bytes, sheet_bytes}
 use Rattle.sheet.specs.Sound.{Sound, Numbered}
 use Rattle.sheet.specs.Answers.{SheetOf}
-use Rattle.sheet.specs.Places.{Cursor, start, entry_at, HandedOut, Handed, InTurn}
+use Rattle.sheet.specs.Places.{Cursor, start, entry_at, HandedOut, Handed, NoneRefused}
 use Rattle.sheet.proofs.Entries.{entry_same}
-use Rattle.sheet.proofs.Turns.{entry_some}
+use Rattle.sheet.proofs.Turns.{entry_some, handed_at}
 
 -- the entry past the end of a list
 abbrev pub no_entry : Entry
@@ -66,13 +64,16 @@ turn bs es from to r x s h = ⊎_elim here (λ (far : length es ≤ from.number)
           standing = record { number = omega (arith, h.number); whole = same.1 ∙ ap (λ k. sheet_bytes (drop k es)) (sym h.number) };
         }
 
--- no record is refused
-pub not_refused : (bs : List ℕ) (es : List Entry) (from to : Cursor) (r : Result (Option Record) SheetRefusal) → SheetOf bs es → Standing bs es from → Handed bs from to r → InTurn bs from r → is_ok r ≡ true
-not_refused bs es from to (Ok o) x s h in_turn = refl
-not_refused bs es from to (Err y) x s h in_turn = ⊎_elim
-    (λ (more : from.number < length es). ap is_ok (in_turn (get_or es from.number no_entry) (sheet_bytes (drop (from.number + 1) es)) (sound_at es from.number x.well.sound more) (ahead bs es from s more)).0)
-    (λ (far : length es ≤ from.number). absurd (omega (arith, ap length (past bs es from s far), length-drop from.at bs, h.more)))
+-- no question would refuse what stands next
+pub none_refused : (bs : List ℕ) (es : List Entry) (from : Cursor) → SheetOf bs es → Standing bs es from → NoneRefused bs from
+none_refused bs es from x s = ⊎_elim
+    (λ (more : from.number < length es). inr (record { entry = get_or es from.number no_entry; tail = sheet_bytes (drop (from.number + 1) es); sound = sound_at es from.number x.well.sound more; whole = ahead bs es from s more }))
+    (λ (far : length es ≤ from.number). inl (omega (arith, ap length (past bs es from s far), length-drop from.at bs)))
     (cases_lt from.number (length es))
+
+-- what is handed out where a reader of a sheet that is known to be another stands
+pub handed : (bs cs : List ℕ) (es : List Entry) (from to : Cursor) (o p : Option Record) → cs ≡ bs → o ≡ p → SheetOf bs es → Standing bs es from → (NoneRefused cs from → Handed cs from to (Ok o)) → Handed bs from to (Ok p)
+handed bs cs es from to o p same is x s h = handed_at bs cs from to (Ok o) (Ok p) same (ap Ok is) (h (subst (λ l. NoneRefused l from) (sym same) (none_refused bs es from x s)))
 
 -- the reader ends where all entries were read
 pub at_end : (bs : List ℕ) (es : List Entry) (from to : Cursor) → Standing bs es from → Handed bs from to (Ok None) → from.number ≡ length es

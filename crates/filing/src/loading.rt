@@ -39,7 +39,7 @@ fn enter_all(book: &mut OpenBook, sheet: &[u8])
     ensures { (es : List Entry) → SheetOf sheet.now es → Filled (entries_alone es) (open_of book.old) (open_of book.new) }
 {
     let mut reader = Reader::new(sheet);
-    while let Some(found) = reader.next().unwrap() {
+    while let Some(found) = reader.next_sound() {
         book.enter(reader.earning(&found), reader.cost(&found))
             .unwrap();
     }
@@ -52,7 +52,7 @@ fn need_all(book: &mut OpenBook, sheet: &[u8])
     ensures { (es : List Entry) → SheetOf sheet.now es → Filled (book_of es) (open_of book.old) (open_of book.new) }
 {
     let mut reader = Reader::new(sheet);
-    while let Some(found) = reader.next().unwrap() {
+    while let Some(found) = reader.next_sound() {
         enter_needs(book, &reader, &found);
     }
 }
