@@ -75,7 +75,7 @@ pub struct Record {
 }
 
 // How many needs each pattern of the four need bits announces, or none where it leaves a gap from the lowest up.
-const NEED_COUNTS: [Option<u8>; 16] = [
+static NEED_COUNTS: [Option<u8>; 16] = [
     Some(0),
     Some(1),
     None,
