@@ -5,7 +5,7 @@ ghost use Rattle.sheet.specs.Layout.{field, laid};
 ghost use Rattle.sheet.specs.Places.{HandedOut, InTurn, SoundAhead, amount_at, cost_place, earning_place, kind_of, needs_at};
 ghost use Rattle.sheet.specs.Sound.{InRange, Ordered};
 
-use super::bytes::{amount_at, whole_need_at};
+use super::bytes::{whole_amount_at, whole_need_at};
 use super::refusal::Fault;
 
 // How many entries a sheet may have, and the largest amount of an entry. The book has the same two, and does not stand on this crate.
@@ -131,19 +131,23 @@ fn layout(number: usize, byte: usize, map: u8, count: u8) -> Record
     }
 }
 
-// Whether the amount at a place, if it has one, is between 1 and the largest.
+// Whether the amount at a place of the sheet, if there is one, is between 1 and the largest.
 #[inline(always)]
 fn amount_in_range(sheet: &[u8], place: Option<usize>) -> bool
+    requires { (at : ℕ) → place ≡ Some at → at + 4 ≤ length sheet.now }
     ensures { Decides result (InRange (amount_at sheet.now place)) }
 {
-    place.is_none_or(|at| (1..=MOST_AMOUNT).contains(&amount_at(sheet, at)))
+    place.is_none_or(|at| (1..=MOST_AMOUNT).contains(&whole_amount_at(sheet, at)))
 }
 
+// Whether the amounts of a record, which the sheet has, are in their range.
 #[inline(always)]
-fn amounts_in_range(sheet: &[u8], kind: Kind) -> bool
-    ensures { Decides result (InRange (amount_at sheet.now (earning_place kind)) × InRange (amount_at sheet.now (cost_place kind))) }
+fn amounts_in_range(sheet: &[u8], found: &Record) -> bool
+    requires earning { (at : ℕ) → earning_place found.now.kind ≡ Some at → at + 4 ≤ length sheet.now }
+    requires cost { (at : ℕ) → cost_place found.now.kind ≡ Some at → at + 4 ≤ length sheet.now }
+    ensures { Decides result (InRange (amount_at sheet.now (earning_place found.now.kind)) × InRange (amount_at sheet.now (cost_place found.now.kind))) }
 {
-    amount_in_range(sheet, kind.earning()) && amount_in_range(sheet, kind.cost())
+    amount_in_range(sheet, found.kind.earning()) && amount_in_range(sheet, found.kind.cost())
 }
 
 // Whether the needs of a record, which the sheet has, ascend, and none is its own number.
@@ -183,7 +187,7 @@ pub(crate) fn record_at(sheet: &[u8], number: usize, at: usize) -> Result<Record
     if found.end > sheet.len() {
         return Err(Fault::CutShort);
     }
-    if !amounts_in_range(sheet, found.kind) {
+    if !amounts_in_range(sheet, &found) {
         return Err(Fault::AmountRange);
     }
     if !needs_ordered(sheet, &found) {
