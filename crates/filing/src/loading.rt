@@ -32,7 +32,7 @@ pub fn load(book: &mut OpenBook, sheet: &[u8]) -> Result<Counts, LoadRefusal>
     Ok(counts)
 }
 
-// Enters the sheet's entries. A need may be of a later entry, so the needs wait for a second pass.
+// Enters the sheet's entries, of which the load has asked all. A need may be of a later entry, so the needs wait for a second pass.
 fn enter_all(book: &mut OpenBook, sheet: &[u8])
     requires fits { Fitting sheet.now (open_of book.old) }
     requires new { (open_of book.old).book ≡ empty }

@@ -116,7 +116,7 @@ pub record SoundAhead (bs : List ℕ) (from : Cursor) : Type 0 where
   pub sound : Sound from.number entry
   pub whole : drop from.at bs ≡ entry_bytes entry ++ tail
 
--- no question would refuse what stands next: it is a sound record, or the sheet's end
+-- nothing would be refused: the sheet ends, or a sound record stands next
 abbrev pub NoneRefused : List ℕ → Cursor → Type 0
 NoneRefused bs from = (length bs ≤ from.at) ⊎ SoundAhead bs from
 

@@ -12,7 +12,7 @@ fn byte_at(sheet: &[u8], at: usize, k: usize) -> u8
     sheet.get(at.saturating_add(k)).copied().unwrap_or(0)
 }
 
-// The amount whose four bytes begin at `at`, of a sheet that has them all.
+// The amount whose four bytes, which the sheet has, begin at `at`.
 #[inline(always)]
 #[tactic(auto, unfolding(crate::specs::Places::number_at))]
 pub(crate) fn whole_amount_at(sheet: &[u8], at: usize) -> u32
@@ -22,7 +22,7 @@ pub(crate) fn whole_amount_at(sheet: &[u8], at: usize) -> u32
     u32::from_be_bytes([sheet[at], sheet[at + 1], sheet[at + 2], sheet[at + 3]])
 }
 
-// The amount whose four bytes begin at `at`. Most sheets have all four, and one question asks so.
+// The amount whose four bytes begin at `at`. One question tells whether the sheet has them all, and hardly any has not.
 #[inline(always)]
 #[tactic(auto, unfolding(crate::specs::Places::number_at))]
 pub(crate) fn amount_at(sheet: &[u8], at: usize) -> u32
@@ -34,7 +34,7 @@ pub(crate) fn amount_at(sheet: &[u8], at: usize) -> u32
     u32::from_be_bytes(array::from_fn(|k| byte_at(sheet, at, k)))
 }
 
-// Need number `j` of those that begin at `at`, of a sheet that has it.
+// Need number `j` of those that begin at `at`, where the sheet has its two bytes.
 #[inline(always)]
 #[tactic(auto, unfolding(crate::specs::Places::number_at))]
 pub(crate) fn whole_need_at(sheet: &[u8], at: usize, j: u8) -> u16

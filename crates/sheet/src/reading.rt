@@ -52,8 +52,8 @@ impl<'a> Reader<'a> {
         Ok(Some(found))
     }
 
-    // The next record of a sheet that is known to be sound, or none at its end: as `next` answers, and no question is put to the record.
-    // Where no sound record stands next, what is handed out means nothing.
+    // What `next` answers where it would refuse nothing, as in a sheet that was read and accepted: no question is put to the record.
+    // Where another record stands next, what is handed out means nothing.
     #[inline(always)]
     pub fn next_sound(&mut self) -> Option<Record>
         ensures sheet { sheet_of self.new ≡ sheet_of self.old }

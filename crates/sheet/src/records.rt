@@ -74,7 +74,8 @@ pub struct Record {
     pub end: usize,
 }
 
-// How many needs each pattern of the four need bits announces, or none where it leaves a gap from the lowest up.
+// How many needs each pattern of the four need bits announces, or none where it leaves a gap from the lowest up. A `const` would be laid
+// onto the stack for each record.
 static NEED_COUNTS: [Option<u8>; 16] = [
     Some(0),
     Some(1),

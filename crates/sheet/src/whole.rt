@@ -10,7 +10,8 @@ use super::reading::Reader;
 use super::records::Record;
 use super::refusal::SheetRefusal;
 
-// Reads a whole sheet: the first question that fails is the refusal.
+// Reads a whole sheet: the first question that fails is the refusal. Only where an entry is missing is it gone through a second time, for
+// the first record that needs one.
 pub fn read(sheet: &[u8]) -> Result<Counts, SheetRefusal>
     ensures { TheAnswer sheet.now result }
 {

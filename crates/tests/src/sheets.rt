@@ -148,3 +148,14 @@ fn records_as_places(rt: HostRuntime) -> Result<(), Fail> {
     assert_eq!(rt; reader.next()?, None);
     Ok(())
 }
+
+#[test]
+fn sound_records_as_places(rt: HostRuntime) -> Result<(), Fail> {
+    let mut asking = Reader::new(shop(33));
+    let mut trusting = Reader::new(shop(33));
+    // the five records, and then none
+    for _ in 0..6 {
+        assert_eq!(rt; trusting.next_sound(), asking.next()?);
+    }
+    Ok(())
+}
