@@ -1,6 +1,6 @@
 /* The cheapest cuts of order sheets and page tiles, for programs in C. Link the archive that tools/staticlib makes. Every call is proved;
    what each answers and leaves is told in full in docs/RULES.md. The functions keep nothing between calls, and take memory only through
-   malloc. The caller sees to it that each pointer leads to as many bytes as is said, also where that is 0, and that marks overlap nothing
+   malloc. The caller sees to it that each pointer leads to as many bytes as is said, that none is null, and that marks overlap nothing
    else. What an answer does not tell is 0. */
 #ifndef CHEAPEST_H
 #define CHEAPEST_H
