@@ -12,7 +12,7 @@ use tile::{MOST_SIDE, Pixel, Tile};
 const RECORDS: usize = MOST_SIDE * MOST_SIDE;
 
 // How many words of the trail each run has for a node: most cuts are then found by one run or two.
-const WORDS_EACH: usize = 12;
+const WORDS_EACH: usize = 8;
 
 // A book's best plans, but for what they say of each entry.
 #[derive(Clone, Copy, PartialEq, Eq, Debug)]
