@@ -4,6 +4,8 @@ use Rattle.std.specs.Option.{MatchOption, unwrap_or}
 use lib.Bits.{bit_and}
 use Rattle.std.proofs.lemmas.Nat.{and_mask, shr-shr, div-add-mod'}
 use Rattle.std.proofs.lemmas.Bool.{cases_lt}
+use Rattle.std.proofs.lemmas.Bool.Decides.{nat_tests}
+use Rattle.sheet.specs.Layout.{announced}
 
 pub need_bits : (m : ℕ) → bit_and (m / 4) 15 ≡ m / 4 % 16
 need_bits m = and_mask (m / 4) 4
@@ -67,3 +69,18 @@ announces b small = subst (λ n. Announces n (slice_index_or need_counts b None)
 pub announces_run : (b : ℕ) (o : Option ℕ) → Announces b o → (k : ℕ) × (b ≡ 2 ^ k - 1) → (unwrap_or o 0 ≤ 4) × (b ≡ 2 ^ unwrap_or o 0 - 1)
 announces_run b None gap run = absurd (gap run)
 announces_run b (Some k) is run = is
+
+-- what they announce, or 0, is told by cases
+pub announced_so : (m : ℕ) (o : Option ℕ) → Announces (m / 4 % 16) o → unwrap_or o 0 ≡ announced m
+announced_so m None gap =
+    let one : m / 4 % 16 ≡ 1 → ⊥ = λ is. gap (1, is) in
+    let three : m / 4 % 16 ≡ 3 → ⊥ = λ is. gap (2, is) in
+    let seven : m / 4 % 16 ≡ 7 → ⊥ = λ is. gap (3, is) in
+    let all : m / 4 % 16 ≡ 15 → ⊥ = λ is. gap (4, is) in
+    grind (arith, nat_tests, one, three, seven, all)
+announced_so m (Some zero) (few, is) = grind (arith, nat_tests, is)
+announced_so m (Some (suc zero)) (few, is) = grind (arith, nat_tests, is)
+announced_so m (Some (suc (suc zero))) (few, is) = grind (arith, nat_tests, is)
+announced_so m (Some (suc (suc (suc zero)))) (few, is) = grind (arith, nat_tests, is)
+announced_so m (Some (suc (suc (suc (suc zero))))) (few, is) = grind (arith, nat_tests, is)
+announced_so m (Some (suc (suc (suc (suc (suc k)))))) (few, is) = absurd (omega arith)

@@ -1,7 +1,7 @@
--- Where a bit map puts the fields of a record: what the reader's inner functions agree on.
-use Rattle.std.specs.Prelude.{ℕ, zero, suc, ◌+◌, ◌*◌, ◌/◌, ◌%◌, Some, None, Option}
+-- Where a bit map puts the fields of a record, and what is laid out where nothing is asked.
+use Rattle.std.specs.Prelude.{ℕ, zero, suc, ◌+◌, ◌*◌, ◌/◌, ◌%◌, ◌^◌, ◌==◌, cond, List, length, Some, None, Option, nat_lt, slice_index}
 use Rattle.sheet.specs.declared.records.Record.{Record}
-use Rattle.sheet.specs.Places.{kind_of}
+use Rattle.sheet.specs.Places.{Cursor, kind_of}
 
 -- the place p, where the bit stands
 abbrev pub field : ℕ → ℕ → Option ℕ
@@ -22,3 +22,16 @@ laid i p m k = record {
   count = k;
   end = p + size m k;
 }
+
+-- how many needs the bit map m announces, by its bits from bit 2 up; 0 where they leave a gap
+abbrev pub announced : ℕ → ℕ
+announced m = cond (m / 4 % 16 == 1) 1 (cond (m / 4 % 16 == 3) 2 (cond (m / 4 % 16 == 7) 3 (cond (m / 4 % 16 == 15) 4 0)))
+
+-- the record that the bit map lays out where a cursor stands, whatever follows it; none past the last byte
+abbrev pub laid_ahead : List ℕ → Cursor → Option Record
+laid_ahead bs from = cond (nat_lt from.at (length bs)) (Some (laid from.number from.at (slice_index bs from.at) (announced (slice_index bs from.at)))) None
+
+-- the cursor behind it; a number that would not fit a machine word stays
+abbrev pub behind : Cursor → Option Record → Cursor
+behind from None = from
+behind from (Some r) = record { at = r.end; number = cond (nat_lt (from.number + 1) (2 ^ 64)) (from.number + 1) from.number }

@@ -1,6 +1,7 @@
 // A reader: a cursor over a borrowed sheet that hands out its records, one after another, and copies nothing.
 ghost use Rattle.std.specs.Prelude.{◌≡◌, Ok};
 ghost use Rattle.std.specs.List.{slice_get};
+ghost use Rattle.sheet.specs.Layout.{laid_ahead, behind};
 ghost use Rattle.sheet.specs.Places.{Handed, InTurn, NoneRefused, amount, amount_at, entry_at, start};
 ghost use Rattle.sheet.specs.Readers.{sheet_of, cursor};
 
@@ -52,8 +53,8 @@ impl<'a> Reader<'a> {
         Ok(Some(found))
     }
 
-    // What `next` answers where it would refuse nothing, as in a sheet that was read and accepted: no question is put to the record.
-    // Where another record stands next, what is handed out means nothing.
+    // The record that the next bit map lays out: no question is put to it. It is what `next` answers where that would refuse nothing, as
+    // in a sheet that was read and accepted.
     #[inline(always)]
     pub fn next_sound(&mut self) -> Option<Record>
         ensures sheet { sheet_of self.new ≡ sheet_of self.old }

@@ -1,7 +1,7 @@
 // A record of a sheet, told as places, and the questions that are put to it.
-ghost use Rattle.std.specs.Prelude.{◌≡◌, ℕ, ◌+◌, ◌-◌, ◌*◌, ◌/◌, ◌%◌, ◌^◌, ◌<◌, ◌≤◌, length, drop, Some, Ok, Decides, MatchOption, MatchResult};
+ghost use Rattle.std.specs.Prelude.{◌≡◌, ℕ, ◌+◌, ◌-◌, ◌*◌, ◌/◌, ◌%◌, ◌^◌, ◌<◌, ◌≤◌, length, drop, Some, Ok, Decides, MatchOption, MatchResult, slice_index};
 ghost use Rattle.sheet.specs.Answers.{First};
-ghost use Rattle.sheet.specs.Layout.{field, laid};
+ghost use Rattle.sheet.specs.Layout.{announced, field, laid};
 ghost use Rattle.sheet.specs.Places.{HandedOut, InTurn, SoundAhead, amount_at, cost_place, earning_place, kind_of, needs_at};
 ghost use Rattle.sheet.specs.Sound.{InRange, Ordered};
 
@@ -201,7 +201,8 @@ pub(crate) fn record_at(sheet: &[u8], number: usize, at: usize) -> Result<Record
 #[inline(always)]
 pub(crate) fn sound_record_at(sheet: &[u8], number: usize, at: usize) -> Record
     requires { at < length sheet.now }
-    ensures { SoundAhead sheet.now (record { at = at; number = number }) → HandedOut sheet.now (record { at = at; number = number }) (record { at = result.end; number = number + 1 }) result }
+    ensures laid { result ≡ laid number at (slice_index sheet.now at) (announced (slice_index sheet.now at)) }
+    ensures sound { SoundAhead sheet.now (record { at = at; number = number }) → HandedOut sheet.now (record { at = at; number = number }) (record { at = result.end; number = number + 1 }) result }
 {
     let map = sheet[at];
     layout(number, at, map, need_count(map).unwrap_or(0))

@@ -14,4 +14,4 @@ returns-clause-in_turn c = λ e tail sound whole.
     let s = c.args.self.now in
     let found = c.sound_record_at-found.result in
     let to : Cursor = record { at = found.end; number = s.number + 1 } in
-    in_turn (sheet_of s) (cursor s) to (Ok (Some found)) (c.sound_record_at-found.ensures (record { entry = e; tail = tail; sound = sound; whole = whole })) e tail sound whole
+    in_turn (sheet_of s) (cursor s) to (Ok (Some found)) (c.sound_record_at-found.ensures.sound (record { entry = e; tail = tail; sound = sound; whole = whole })) e tail sound whole
