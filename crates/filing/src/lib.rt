@@ -6,6 +6,6 @@ mod packing;
 mod refusal;
 mod writing;
 
-pub use loading::load;
+pub use loading::{CheckedSheet, load};
 pub use refusal::{LoadRefusal, WriteRefusal};
 pub use writing::{MOST_SHEET_BYTES, write};

@@ -4,6 +4,7 @@ ghost use Rattle.sheet.specs.Answers.{SheetOf};
 ghost use Rattle.sheet.specs.Format.{Entry};
 ghost use Rattle.sheet.specs.Places.{entry_at};
 ghost use Rattle.sheet.specs.Readers.{sheet_of};
+ghost use Rattle.sheet.specs.Wholes.{TheAnswer};
 ghost use Rattle.book.specs.Books.{empty};
 ghost use Rattle.book.specs.Calls.{Open};
 ghost use Rattle.book.specs.Values.{open_of};
@@ -13,23 +14,67 @@ ghost use Rattle.filing.specs.Books.{book_of};
 
 use super::refusal::LoadRefusal;
 use book::OpenBook;
-use sheet::{Counts, Reader, Record};
+use sheet::{Counts, Reader, Record, SheetRefusal};
+use std::marker::Model;
 
 // Fills a book that has no entries with all that a sheet tells. A refusal leaves the book as it was.
 pub fn load(book: &mut OpenBook, sheet: &[u8]) -> Result<Counts, LoadRefusal>
     ensures loaded { Loaded (open_of book.old) sheet.now result (open_of book.new) }
     ensures only { (r : Outcome Counts LoadRefusal) (t : Open) → Loaded (open_of book.old) sheet.now r t → (r ≡ result) × (t.book ≡ (open_of book.new).book) }
 {
-    if book.entry_count() > 0 {
-        return Err(LoadRefusal::HasEntries);
+    CheckedSheet::new(sheet).load_into(book)
+}
+
+// A sheet and the answer to its own questions: whoever learns from the answer how long a table has to be loads the sheet without having
+// it read again. Contracts see its bytes.
+#[derive(Debug, Drop)]
+pub struct CheckedSheet<'a> {
+    sheet: &'a [u8],
+    answer: Result<Counts, SheetRefusal>,
+}
+
+impl<'a> Model for CheckedSheet<'a> {
+    ghost Value = { List ℕ };
+
+    ghost view = { λ s. s.sheet.now };
+
+    ghost invariant = { λ s. TheAnswer s.sheet.now s.answer };
+}
+
+impl<'a> CheckedSheet<'a> {
+    // Puts the sheet's own questions.
+    pub fn new(sheet: &'a [u8]) -> CheckedSheet<'a>
+        ensures { result ≡ sheet.now }
+    {
+        CheckedSheet {
+            sheet,
+            answer: sheet::read(sheet),
+        }
     }
-    let counts = sheet::read(sheet)?;
-    if book.record_count() < counts.entries + 2 * counts.needs {
-        return Err(LoadRefusal::ShortTable);
+
+    // How many entries and needs the sheet has, or why it is refused.
+    pub fn answer(&self) -> Result<Counts, SheetRefusal>
+        ensures { TheAnswer self.now result }
+    {
+        self.answer
     }
-    enter_all(book, sheet);
-    need_all(book, sheet);
-    Ok(counts)
+
+    // Does what `load` does, and does not put the sheet's own questions again.
+    pub fn load_into(&self, book: &mut OpenBook) -> Result<Counts, LoadRefusal>
+        ensures loaded { Loaded (open_of book.old) self.now result (open_of book.new) }
+        ensures only { (r : Outcome Counts LoadRefusal) (t : Open) → Loaded (open_of book.old) self.now r t → (r ≡ result) × (t.book ≡ (open_of book.new).book) }
+    {
+        if book.entry_count() > 0 {
+            return Err(LoadRefusal::HasEntries);
+        }
+        let counts = self.answer?;
+        if book.record_count() < counts.entries + 2 * counts.needs {
+            return Err(LoadRefusal::ShortTable);
+        }
+        enter_all(book, self.sheet);
+        need_all(book, self.sheet);
+        Ok(counts)
+    }
 }
 
 // Enters the sheet's entries, of which the load has asked all. A need may be of a later entry, so the needs wait for a second pass.
