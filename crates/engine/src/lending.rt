@@ -4,6 +4,7 @@ ghost use Rattle.engine.specs.Lendings.{PlanInto, SplitInto};
 use super::cutting::cut_into;
 use super::refusal::LentRefusal;
 use book::{OpenBook, Record};
+use filing::CheckedSheet;
 use sheet::Counts;
 use std::alloc::{AllocError, Global};
 use tile::{MOST_SIDE, Pixel, Tile};
@@ -31,13 +32,14 @@ pub fn plan_into(
 ) -> Result<Result<Best, LentRefusal>, AllocError>
     ensures { PlanInto sheet.now marks.old marks.new result }
 {
-    let counts = match sheet::read(sheet) {
+    let checked = CheckedSheet::new(sheet);
+    let counts = match checked.answer() {
         Ok(counts) => counts,
         Err(refusal) => return Ok(Err(LentRefusal::Load(refusal.into()))),
     };
     let mut table = vec![in heap; Record::default(); counts.entries + 2 * counts.needs]?;
     let mut book = OpenBook::new(&mut table);
-    let counts = filing::load(&mut book, sheet).unwrap();
+    let counts = checked.load_into(&mut book).unwrap();
     let earnings = book.total_earnings();
     let mut sealed = book.seal();
     match cut_into(heap, &mut sealed, WORDS_EACH * counts.entries, marks)? {
