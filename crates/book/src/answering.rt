@@ -7,7 +7,7 @@ ghost use Rattle.book.specs.Values.{sealed_of, sealed_table, sealed_value, seale
 use super::held::mate;
 use super::record::Record;
 use super::sealed::SealedBook;
-use network::{Network, NetworkRefusal, Terminal};
+use network::{Arc, Network, NetworkRefusal, Terminal};
 
 impl<'a> SealedBook<'a> {
     // The record of an entry.
@@ -66,6 +66,22 @@ impl<'a> Network for SealedBook<'a> {
         }
         let placed = self.held.arc(usize::from(entry.first) + place);
         Ok(Some(usize::from(placed.code)))
+    }
+
+    // The record of a place tells the arc's head too, so that the arc's own record is not read.
+    #[inline(always)]
+    fn whole_arc_at(&self, node: usize, place: usize) -> Result<Option<Arc>, NetworkRefusal> {
+        let entry = self.entry(node)?;
+        if place >= usize::from(entry.arcs) {
+            return Ok(None);
+        }
+        let placed = self.held.arc(usize::from(entry.first) + place);
+        let code = usize::from(placed.code);
+        Ok(Some(Arc {
+            code,
+            head: usize::from(placed.to),
+            reverse: mate(code),
+        }))
     }
 
     #[inline(always)]

@@ -19,6 +19,7 @@ pub(crate) const UNUSED: Record = Record {
     head: 100,
     residual: 101,
     code: 102,
+    to: 103,
 };
 
 // What can be sent along a need.
