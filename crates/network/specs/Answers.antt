@@ -18,7 +18,8 @@ terminal_answer v t u = at_node v u (v.terminal t u)
 abbrev pub place_answer : Net → ℕ → ℕ → Result (Option ℕ) NetworkRefusal
 place_answer v u k = at_node v u (slice_get (v.graph.arcs u) k)
 
--- arc a, told with the node that it leads to and its reverse
+-- the arc of a code, told with the node that it leads to and its reverse; none where the code has no ends, which no place of a lawful
+-- network has
 abbrev pub whole : Graph → Option ℕ → Option Arc
 whole g None = None
 whole g (Some a) = option_map (λ e. record { code = a; head = e.head; reverse = e.reverse }) (g.ends a)

@@ -1,4 +1,4 @@
--- What a reader of the contracts must believe of a row of cells.
+-- The definitions that contracts cite, those of inner functions among them.
 pub mod Cells
 pub mod Rows
 pub mod Laws

@@ -1,4 +1,4 @@
--- What a reader of the contracts must believe of a run.
+-- The definitions that contracts cite, those of inner functions among them.
 pub mod Refusals
 pub mod Tables
 pub mod Runs

@@ -17,7 +17,7 @@ use Rattle.sheet.proofs.Needs.{there_more}
 use Rattle.sheet.proofs.Sheets.{not_nothing, one_list, one_answer, some_entries, accepted}
 use Rattle.sheet.proofs.Turns.{Progress, progress_none, progress_more, progress_done, progress_fault, reads_list}
 
-need_count_push : (es : List Entry) (e : Entry) → need_count (es ++ e ∷ []) ≡ need_count es + length e.needs
+pub need_count_push : (es : List Entry) (e : Entry) → need_count (es ++ e ∷ []) ≡ need_count es + length e.needs
 need_count_push [] e = omega arith
 need_count_push (d ∷ es) e = omega (arith, need_count_push es e)
 

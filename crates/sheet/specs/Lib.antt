@@ -1,4 +1,4 @@
--- What a reader of the contracts must believe of the order sheet.
+-- The definitions that contracts cite, those of inner functions among them.
 pub mod Format
 pub mod Sound
 pub mod Refusals

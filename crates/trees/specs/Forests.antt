@@ -83,7 +83,7 @@ with_queued f l u q = record { size = f.size; tree = f.tree; parent = f.parent; 
 abbrev pub with_stage : Forest → ℕ → ℕ → Forest
 with_stage f u s = record { size = f.size; tree = f.tree; parent = f.parent; queued = f.queued; stage = at f.stage u s }
 
--- f with a node put into a tree, below the arc's other end, and among those that wait
+-- f with a node put into a tree, below a parent, and among those that wait
 abbrev pub joined : Forest → Terminal → ℕ → Parent → Forest
 joined f t u p = with_queued (with_parent (with_tree f u (Some t)) u p) Waiting u true
 

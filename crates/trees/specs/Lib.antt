@@ -1,4 +1,4 @@
--- What a reader of the contracts must believe of the search trees.
+-- The definitions that contracts cite, those of inner functions among them.
 pub mod Forests
 pub mod Rings
 pub mod Trees
