@@ -1,6 +1,6 @@
-use Rattle.std.proofs.Common.{◌≡◌, ◌*◌, ◌<◌, arith, sym}
+use Rattle.std.proofs.Common.{◌≡◌, ◌<◌, arith}
 use Rattle.std.proofs.lemmas.Bool.Decides.{nat_tests}
-use Rattle.book.specs.Tables.{columns}
+use Rattle.book.specs.Tables.{columns, front}
 use Rattle.book.specs.Values.{sealed_table}
 use Rattle.book.proofs.Settled.{placed_past, code_there, whole_placed}
 use Rattle.book.proofs.answering.SealedBookNetwork.whole_arc_at.Goals as goal
@@ -23,5 +23,7 @@ pub returns : goal.returns
 returns c =
     let b = c.args.self.now in
     let there : c.args.node < b.held.entries = grind (arith, nat_tests) in
-    let is = whole_placed b c.args.node c.args.place there in
-    grind (arith, nat_tests, is)
+    let entry : c.in_ok-entry.entry ≡ front (sealed_table b) c.args.node = grind (arith, nat_tests) in
+    let inside : c.args.place < (front (sealed_table b) c.args.node).arcs = grind (arith, nat_tests) in
+    let is = whole_placed b c.args.node c.args.place there inside in
+    cc
