@@ -189,6 +189,16 @@ bool agrees(const Family& family, const Measured& ours, const Measured& other) {
   return false;
 }
 
+// Runs the solvers that are compared most closely once on the largest instances, so that the heap has grown before time is taken.
+void warm_up() {
+  for (const Family& family : families::all()) {
+    const auto instances = instances_of(family);
+    const std::vector<Instance> first(instances.begin(), instances.begin() + 1);
+    measure(by_library, first, 1);
+    measure_libmaxflow(family, first, 1);
+  }
+}
+
 // Compares all solvers on every family.
 bool compare(int turns, const std::string& only) {
   bool agree = true;
@@ -231,5 +241,6 @@ bool grow(int turns) {
 int main(int count, char** words) {
   const int turns = count > 1 ? atoi(words[1]) : 15;
   const std::string only = count > 2 ? words[2] : "";
+  warm_up();
   return (only == "growth" ? grow(turns) : compare(turns, only)) ? 0 : 1;
 }
