@@ -6,7 +6,7 @@ use Rattle.network.specs.declared.arc.Arc.{Arc}
 use Rattle.network.specs.declared.refusal.NetworkRefusal.{NetworkRefusal}
 use Rattle.network.specs.declared.refusal.NetworkRefusal.TheVariants.{NoNode, NoArc, AboveResidual}
 use Rattle.network.specs.declared.terminal.Terminal.{Terminal}
-use Rattle.network.specs.Nets.{Ends, Graph, Net, taken, shifted}
+use Rattle.network.specs.Nets.{Ends, Net, taken, shifted}
 
 -- x, where the node is there
 abbrev pub at_node : {A : Type 0} → Net → ℕ → A → Result A NetworkRefusal
@@ -18,14 +18,17 @@ terminal_answer v t u = at_node v u (v.terminal t u)
 abbrev pub place_answer : Net → ℕ → ℕ → Result (Option ℕ) NetworkRefusal
 place_answer v u k = at_node v u (slice_get (v.graph.arcs u) k)
 
--- the arc of a code, told with the node that it leads to and its reverse; none where the code has no ends, which no place of a lawful
--- network has
-abbrev pub whole : Graph → Option ℕ → Option Arc
-whole g None = None
-whole g (Some a) = option_map (λ e. record { code = a; head = e.head; reverse = e.reverse }) (g.ends a)
+-- the arc of a code that has these ends, told with what can be sent along it and back
+abbrev pub arc_with : Net → ℕ → Ends → Arc
+arc_with v a e = record { code = a; head = e.head; reverse = e.reverse; residual = v.residual a; back = v.residual e.reverse }
+
+-- the arc of a code, told whole; none where the code has no ends, which no place of a lawful network has
+abbrev pub whole : Net → Option ℕ → Option Arc
+whole v None = None
+whole v (Some a) = option_map (arc_with v a) (v.graph.ends a)
 
 abbrev pub arc_answer : Net → ℕ → ℕ → Result (Option Arc) NetworkRefusal
-arc_answer v u k = at_node v u (whole v.graph (slice_get (v.graph.arcs u) k))
+arc_answer v u k = at_node v u (whole v (slice_get (v.graph.arcs u) k))
 
 -- f of the arc's ends, where the arc is there
 abbrev pub at_arc : {A : Type 0} → (Ends → Result A NetworkRefusal) → Option Ends → Result A NetworkRefusal

@@ -6,4 +6,7 @@ pub struct Arc {
     // the node that it leads to, and the code of its reverse
     pub head: usize,
     pub reverse: usize,
+    // what can still be sent along it, and along its reverse
+    pub residual: u64,
+    pub back: u64,
 }

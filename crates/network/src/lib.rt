@@ -59,6 +59,8 @@ pub trait Network {
             code,
             head,
             reverse,
+            residual: self.arc_residual(code)?,
+            back: self.arc_residual(reverse)?,
         }))
     }
 

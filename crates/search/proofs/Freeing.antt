@@ -68,23 +68,27 @@ freeing_orphaned v t u k c a w e before f l h hangs child is from =
     }
 
 -- f where a neighbour waits, if something can be sent from it
-freeing_wakes : (v : Net) (t : Terminal) (u k : ℕ) (h : Neighbour) (before f : Forest) → Freeing v t u k before f → Freeing v t u k before (woken v h f)
-freeing_wakes v t u k h before f s = cond_both (ltb 0 (v.residual h.inward)) (with_queued f Waiting h.node true) f (Freeing v t u k before) (λ _. freeing_woken v t u k h.node before f s) (λ _. s)
+freeing_wakes : (v : Net) (t : Terminal) (u k : ℕ) (h : Neighbour) (before f : Forest) → Freeing v t u k before f → Freeing v t u k before (woken h f)
+freeing_wakes v t u k h before f s = cond_both (ltb 0 h.inward_residual) (with_queued f Waiting h.node true) f (Freeing v t u k before) (λ _. freeing_woken v t u k h.node before f s) (λ _. s)
 
 -- and is an orphan, if it hung from the node
-freeing_disowns : (v : Net) (t : Terminal) (u k : ℕ) (h : Neighbour) (before f : Forest) → Lawful v → Freeing v t u k before f → Beside v.graph t u k h → f.tree h.node ≡ Some t → Freeing v t u k before (disowned f h.node h.outward)
+freeing_disowns : (v : Net) (t : Terminal) (u k : ℕ) (h : Neighbour) (before f : Forest) → Lawful v → Freeing v t u k before f → Beside v t u k h → f.tree h.node ≡ Some t → Freeing v t u k before (disowned f h.node h.outward)
 freeing_disowns v t u k h before f l s b child = each_way (Freeing v t u k before) f h.node h.outward
     (λ w hangs. freeing_orphaned v t u k h.node h.outward w b.ends before f l s hangs child b.out b.from)
     (λ _. s)
 
-woken_tree : (v : Net) (h : Neighbour) (f : Forest) → (woken v h f).tree ≡ f.tree
-woken_tree v h f = cond_both (ltb 0 (v.residual h.inward)) (with_queued f Waiting h.node true) f (λ g. g.tree ≡ f.tree) (λ _. refl) (λ _. refl)
+woken_tree : (h : Neighbour) (f : Forest) → (woken h f).tree ≡ f.tree
+woken_tree h f = cond_both (ltb 0 h.inward_residual) (with_queued f Waiting h.node true) f (λ g. g.tree ≡ f.tree) (λ _. refl) (λ _. refl)
 
-woken_waits : (v : Net) (h : Neighbour) (f : Forest) → 0 < v.residual h.inward → (woken v h f).queued Waiting h.node ≡ true
-woken_waits v h f some = grind (arith, nat_tests)
+woken_waits : (h : Neighbour) (f : Forest) → 0 < h.inward_residual → (woken h f).queued Waiting h.node ≡ true
+woken_waits h f some = grind (arith, nat_tests)
+
+-- a neighbour in the tree is let go: it wakes, and loses its parent if that is the node
+pub released_in : (t : Terminal) (h : Neighbour) (f g g' : Forest) → is_of (f.tree h.node) t ≡ true → g ≡ woken h f → g' ≡ disowned g h.node h.outward → g' ≡ released t h f
+released_in t h f g g' is wakes loses = loses ∙ ap (λ g. disowned g h.node h.outward) wakes ∙ rw is refl
 
 -- the neighbour at this place has been let go
-freeing_more : (v : Net) (t : Terminal) (u k : ℕ) (h : Neighbour) (before f : Forest) → Lawful v → Freeing v t u k before f → Beside v.graph t u k h → Freeing v t u (k + 1) before (released v t h f)
+freeing_more : (v : Net) (t : Terminal) (u k : ℕ) (h : Neighbour) (before f : Forest) → Lawful v → Freeing v t u k before f → Beside v t u k h → Freeing v t u (k + 1) before (released t h f)
 freeing_more v t u k h before f l s b =
     let w = h.node in
     let on : (g : Forest) → Freeing v t u k before g → Loose v g t h.outward b.ends → Freeing v t u (k + 1) before g = λ g s loose. record {
@@ -93,17 +97,17 @@ freeing_more v t u k h before f l s b =
       mine = s.mine;
       alone = s.alone;
       survey = s.survey;
-      seen = through_more v.graph t u k h (Loose v g t) l.graph b s.seen loose;
+      seen = through_more v t u k h (Loose v g t) l b s.seen loose;
     } in
-    cond_both (is_of (f.tree w) t) (disowned (woken v h f) w h.outward) f (Freeing v t u (k + 1) before)
+    cond_both (is_of (f.tree w) t) (disowned (woken h f) w h.outward) f (Freeing v t u (k + 1) before)
     (λ is.
-    let child : (woken v h f).tree w ≡ Some t = ap (λ (T : ℕ → Option Terminal). T w) (woken_tree v h f) ∙ is_of_some (f.tree w) t is in
-    let g = disowned (woken v h f) w h.outward in
-    on g (freeing_disowns v t u k h before (woken v h f) l (freeing_wakes v t u k h before f s) b child)
-    (λ _. rw b.to (λ some. disowned_waits (woken v h f) w h.outward w (woken_waits v h f (rw (← b.back) some)), disowned_here (woken v h f) w h.outward)))
+    let child : (woken h f).tree w ≡ Some t = ap (λ (T : ℕ → Option Terminal). T w) (woken_tree h f) ∙ is_of_some (f.tree w) t is in
+    let g = disowned (woken h f) w h.outward in
+    on g (freeing_disowns v t u k h before (woken h f) l (freeing_wakes v t u k h before f s) b child)
+    (λ _. rw b.to (λ some. disowned_waits (woken h f) w h.outward w (woken_waits h f (rw (← b.takes, ← b.back) some)), disowned_here (woken h f) w h.outward)))
     (λ is. on f s (λ in_tree. cc (b.to, is_of_true t)))
 
-pub freeing_after : {v : Net} {t : Terminal} {u k : ℕ} {h : Neighbour} {before f f' : Forest} → Lawful v → Freeing v t u k before f → Beside v.graph t u k h → f' ≡ released v t h f → Freeing v t u (k + 1) before f'
+pub freeing_after : {v : Net} {t : Terminal} {u k : ℕ} {h : Neighbour} {before f f' : Forest} → Lawful v → Freeing v t u k before f → Beside v t u k h → f' ≡ released t h f → Freeing v t u (k + 1) before f'
 freeing_after l s b is = rw is (freeing_more _ _ _ _ _ _ _ l s b)
 
 -- what the end of the loop needs to free the node

@@ -38,17 +38,17 @@ scanning_there value {w = w} {t = t} {h = h} l (k, stands, so_far) steps =
     omega (arith, b.to, so_far.trees.size, far_there (value w).graph t h.outward b.ends l.graph b.out)
 
 -- an arc that leads nowhere new
-pub scanning_more : {v : Net} {t : Terminal} {u k : ℕ} {before f : Forest} {h : Neighbour} → Lawful v → Scanning v t u k before f → Beside v.graph t u k h → (0 < v.residual h.outward → f.tree h.node ≡ Some t) → Scanning v t u (k + 1) before f
+pub scanning_more : {v : Net} {t : Terminal} {u k : ℕ} {before f : Forest} {h : Neighbour} → Lawful v → Scanning v t u k before f → Beside v t u k h → (0 < h.outward_residual → f.tree h.node ≡ Some t) → Scanning v t u (k + 1) before f
 scanning_more {v = v} {t = t} {u = u} {k = k} {f = f} {h = h} l s b inside = record {
   trees = s.trees;
   mine = s.mine;
   grows = s.grows;
   left = s.left;
-  seen = through_more v.graph t u k h (Inside v f t) l.graph b s.seen (λ some. ap f.tree b.to ∙ inside some);
+  seen = through_more v t u k h (Inside v f t) l b s.seen (λ some. ap f.tree b.to ∙ inside (rw (← b.sends) some));
 }
 
 -- a free node joins
-scanning_joined : (v : Net) (t : Terminal) (u k : ℕ) (before f : Forest) (h : Neighbour) → Lawful v → Scanning v t u k before f → Beside v.graph t u k h → 0 < v.residual h.outward → f.tree h.node ≡ None → Scanning v t u (k + 1) before (joined f t h.node (Along h.outward u))
+scanning_joined : (v : Net) (t : Terminal) (u k : ℕ) (before f : Forest) (h : Neighbour) → Lawful v → Scanning v t u k before f → Beside v t u k h → 0 < h.outward_residual → f.tree h.node ≡ None → Scanning v t u (k + 1) before (joined f t h.node (Along h.outward u))
 scanning_joined v t u k before f h l s b some free =
     let a = h.outward in
     let w = h.node in
@@ -56,7 +56,7 @@ scanning_joined v t u k before f h l s b some free =
     let f' = joined f t w p in
     let there : w < v.graph.nodes = omega (arith, b.to, far_there v.graph t a b.ends l.graph b.out) in
     let kept : (x : ℕ) (y : Terminal) → f.tree x ≡ Some y → f'.tree x ≡ Some y = λ x y in_tree. grind (arith, nat_tests) in
-    let joins : Trees v (joined (with_queued f Waiting u true) t w p) = subst (λ z. Trees v (joined (with_queued f Waiting u true) t w (Along a z))) b.from (join_trees v (with_queued f Waiting u true) t w a b.ends l s.trees free (record { ends = b.out; child = b.to; positive = some; same_tree = ap f.tree b.from ∙ s.mine })) in
+    let joins : Trees v (joined (with_queued f Waiting u true) t w p) = subst (λ z. Trees v (joined (with_queued f Waiting u true) t w (Along a z))) b.from (join_trees v (with_queued f Waiting u true) t w a b.ends l s.trees free (record { ends = b.out; child = b.to; positive = rw b.sends some; same_tree = ap f.tree b.from ∙ s.mine })) in
     scanning_more {f = f'} l
     (record {
       trees = requeue_trees v (joined (with_queued f Waiting u true) t w p) _ (at_twice (f.queued Waiting) u w) (λ _ is. is) joins;
@@ -68,7 +68,7 @@ scanning_joined v t u k before f h l s b some free =
     b
     (λ _. at_here f.tree w (Some t) w refl)
 
-pub scanning_grown : {v : Net} {t : Terminal} {u k : ℕ} {before f f' : Forest} {h : Neighbour} → Lawful v → Scanning v t u k before f → Beside v.graph t u k h → 0 < v.residual h.outward → f.tree h.node ≡ None → f' ≡ joined f t h.node (Along h.outward u) → Scanning v t u (k + 1) before f'
+pub scanning_grown : {v : Net} {t : Terminal} {u k : ℕ} {before f f' : Forest} {h : Neighbour} → Lawful v → Scanning v t u k before f → Beside v t u k h → 0 < h.outward_residual → f.tree h.node ≡ None → f' ≡ joined f t h.node (Along h.outward u) → Scanning v t u (k + 1) before f'
 scanning_grown l s b some free is = rw is (scanning_joined _ _ _ _ _ _ _ l s b some free)
 
 -- every arc has been seen: the node need not wait

@@ -3,13 +3,13 @@ ghost use Rattle.std.specs.Prelude.{◌≡◌, ◌+◌, ◌<◌, ◌≤◌, true
 ghost use Rattle.trees.specs.declared.lane.Lane.TheVariants.{Orphans};
 ghost use Rattle.trees.specs.declared.work.Parent.TheVariants.{Orphan};
 ghost use Rattle.trees.specs.Rings.{Empty};
-ghost use Rattle.trees.specs.Trees.{Anchored, Trees, adoption_left, There};
+ghost use Rattle.trees.specs.Trees.{Anchored, Trees, adoption_left};
 ghost use Rattle.trees.specs.Surveys.{Survey, Offered, restaged, SurveyKept, StagesBelow};
 ghost use Rattle.trees.specs.Searches.{TreesBut};
 ghost use Rattle.search.specs.Adoptions.{Inward, Found, woken, released, OrphanOf};
 ghost use Rattle.search.specs.Tables.{forest_of};
 
-use super::reading::{Neighbour, neighbours, residual};
+use super::reading::{Neighbour, neighbours};
 use super::table::{Table, hanging};
 use network::{Network, Terminal};
 use trees::{Lane, Parent, Work};
@@ -75,11 +75,11 @@ impl<N: Network> Adoption<'_, N> {
     #[inline(always)]
     fn can_take(&self, table: &Table, node: usize, next: Neighbour) -> bool
         requires survey { Survey (N.Network.value self.now.net.now) (forest_of table.now) self.now.stage }
-        requires inward { Inward (N.Network.value self.now.net.now).graph self.now.terminal node next }
+        requires inward { Inward (N.Network.value self.now.net.now) self.now.terminal node next }
         ensures { result ≡ true → Offered (N.Network.value self.now.net.now) (forest_of table.now) self.now.terminal node next.inward next.node }
     {
         table.is_in(next.node, self.terminal)
-            && residual(self.net, next.inward) > 0
+            && next.inward_residual > 0
             && self.is_anchored(table, next.node)
     }
 
@@ -116,11 +116,10 @@ impl<N: Network> Adoption<'_, N> {
     // Lets a neighbour wait, if something can be sent from it.
     #[inline(always)]
     fn wake(&self, table: &mut Table, next: Neighbour)
-        requires there { There (N.Network.value self.now.net.now).graph next.inward }
-        requires inside { next.node < (forest_of table.old).size }
-        ensures { forest_of table.new ≡ woken (N.Network.value self.now.net.now) next (forest_of table.old) }
+        requires { next.node < (forest_of table.old).size }
+        ensures { forest_of table.new ≡ woken next (forest_of table.old) }
     {
-        if residual(self.net, next.inward) > 0 {
+        if next.inward_residual > 0 {
             table.put(Lane::Waiting, next.node);
         }
     }
@@ -128,9 +127,8 @@ impl<N: Network> Adoption<'_, N> {
     // Lets go of a neighbour of a node that is about to be free.
     #[inline(always)]
     fn release(&self, table: &mut Table, next: Neighbour)
-        requires there { There (N.Network.value self.now.net.now).graph next.inward }
-        requires inside { next.node < (forest_of table.old).size }
-        ensures { forest_of table.new ≡ released (N.Network.value self.now.net.now) self.now.terminal next (forest_of table.old) }
+        requires { next.node < (forest_of table.old).size }
+        ensures { forest_of table.new ≡ released self.now.terminal next (forest_of table.old) }
     {
         if table.is_in(next.node, self.terminal) {
             self.wake(table, next);

@@ -5,7 +5,7 @@ ghost use Rattle.trees.specs.Trees.{Trees, growth_left};
 ghost use Rattle.trees.specs.Searches.{TreesBut, Scanned, Grown, Grows};
 ghost use Rattle.search.specs.Tables.{forest_of};
 
-use super::reading::{neighbours, residual};
+use super::reading::neighbours;
 use super::table::{Table, hanging};
 use network::{Network, Terminal};
 use trees::Lane;
@@ -26,7 +26,7 @@ pub(crate) fn scan<N: Network>(
     ensures left { growth_left (N.Network.value net.now).graph.nodes (forest_of table.new) ≤ growth_left (N.Network.value net.now).graph.nodes (forest_of table.old) }
 {
     for next in neighbours(net, terminal, node) {
-        if !table.is_in(next.node, terminal) && residual(net, next.outward) > 0 {
+        if !table.is_in(next.node, terminal) && next.outward_residual > 0 {
             match table.work(next.node).tree {
                 None => table.join(terminal, next.node, hanging(next.outward, node)),
                 Some(_) => return Some(next.outward),

@@ -14,6 +14,9 @@ pub(crate) struct Neighbour {
     // along which the tree grows to the neighbour, and from the neighbour
     pub(crate) outward: usize,
     pub(crate) inward: usize,
+    // what can still be sent along each of them
+    pub(crate) outward_residual: u64,
+    pub(crate) inward_residual: u64,
 }
 
 // The neighbours of a node, one place after another, as the tree of the terminal meets them.
@@ -56,14 +59,21 @@ impl<'a, N: Network> Iterator for Neighbourhood<'a, N> {
     fn next(&mut self) -> Option<Neighbour> {
         let arc = self.net.whole_arc_at(self.node, self.place).unwrap()?;
         self.place += 1;
-        let (outward, inward) = match self.terminal {
-            Terminal::Source => (arc.code, arc.reverse),
-            Terminal::Sink => (arc.reverse, arc.code),
-        };
-        Some(Neighbour {
-            node: arc.head,
-            outward,
-            inward,
+        Some(match self.terminal {
+            Terminal::Source => Neighbour {
+                node: arc.head,
+                outward: arc.code,
+                inward: arc.reverse,
+                outward_residual: arc.residual,
+                inward_residual: arc.back,
+            },
+            Terminal::Sink => Neighbour {
+                node: arc.head,
+                outward: arc.reverse,
+                inward: arc.code,
+                outward_residual: arc.back,
+                inward_residual: arc.residual,
+            },
         })
     }
 }

@@ -1,18 +1,20 @@
 -- What a pixel's record tells of its arcs.
-use Rattle.std.proofs.Common.{◌≡◌, ℕ, ◌<◌, true, false, List, length, filter, None, Some, Option, sym, refl, ap, ◌∙◌, ⊎_elim}
+use Rattle.std.proofs.Common.{◌≡◌, ℕ, ◌<◌, ◌≤◌, true, false, List, length, take, filter, None, Some, Option, sym, refl, ap, ◌∙◌, ⊎_elim}
 use Rattle.std.proofs.lemmas.Bool.{cases_Bool}
+use Rattle.std.proofs.lemmas.List.{get_or-take}
 use Rattle.std.proofs.lemmas.Option.{slice_get-map}
 use Rattle.std.specs.Prelude.{option_map, Ok, Err, nat_lt}
 use Rattle.std.specs.List.{slice_get}
+use Rattle.network.specs.declared.arc.Arc.{Arc}
 use Rattle.network.specs.declared.refusal.NetworkRefusal.TheVariants.{NoNode}
-use Rattle.network.specs.Answers.{at_node, whole, arc_answer}
+use Rattle.network.specs.Answers.{at_node, arc_with, whole, arc_answer}
 use Rattle.tile.specs.declared.direction.Direction.{Direction}
 use Rattle.tile.specs.declared.direction.Direction.TheVariants.{Right, Left, Below, Above}
 use Rattle.tile.specs.declared.pixel.Pixel.{Pixel}
-use Rattle.tile.specs.Grids.{directions, joined, arc_of, directions_of, whole_arc, arcs_of, grid}
-use Rattle.tile.specs.Laws.{at_place, arc_there}
-use Rattle.tile.specs.Pixels.{has}
-use Rattle.tile.specs.Tables.{pixel_at, of_pixels, Told}
+use Rattle.tile.specs.Grids.{directions, opposite, neighbour, joined, arc_of, directions_of, joins, arcs_of, grid}
+use Rattle.tile.specs.Laws.{owner_of_arc, direction_of_arc, both_joined, at_place, arc_there}
+use Rattle.tile.specs.Pixels.{has, residual_of}
+use Rattle.tile.specs.Tables.{no_pixel, pixel_at, of_pixels, Told}
 
 -- the neighbours that its record tells are those on the tile
 pub directions_told : (w : ℕ) (pixels : List Pixel) (v : ℕ) → Told w pixels → v < length pixels → filter (has (pixel_at pixels v).neighbours) directions ≡ directions_of w (length pixels) v
@@ -40,13 +42,24 @@ arc_told w pixels v k o is = slice_get-map (λ d. arc_of d v) (directions_of w (
 pub there_answer : {A : Type 0} (w : ℕ) (pixels : List Pixel) (v : ℕ) (x : A) → nat_lt v (length pixels) ≡ true → at_node (of_pixels w pixels) v x ≡ Ok x
 there_answer w pixels v x there = rw there refl
 
-pub whole_told : (w : ℕ) (pixels : List Pixel) (v k : ℕ) (o : Option Direction) → Answers w pixels v k o → arc_answer (of_pixels w pixels) v k ≡ Ok (option_map (λ d. whole_arc w d v) o)
+-- the arc of pixel v to its neighbour, told whole
+abbrev pub arc_to : ℕ → List Pixel → ℕ → Direction → Arc
+arc_to w pixels v d = arc_with (of_pixels w pixels) (arc_of d v) (joins w d v)
+
+pub whole_told : (w : ℕ) (pixels : List Pixel) (v k : ℕ) (o : Option Direction) → Answers w pixels v k o → arc_answer (of_pixels w pixels) v k ≡ Ok (option_map (arc_to w pixels v) o)
 whole_told w pixels v k o is =
-    let g = grid w (length pixels) in
-    there_answer w pixels v (whole g (slice_get (arcs_of w (length pixels) v) k)) (accepted w pixels v o _ is).0
-    ∙ ap (λ a. Ok (whole g a)) (arc_told w pixels v k o is)
+    let t = of_pixels w pixels in
+    there_answer w pixels v (whole t (slice_get (arcs_of w (length pixels) v) k)) (accepted w pixels v o _ is).0
+    ∙ ap (λ a. Ok (whole t a)) (arc_told w pixels v k o is)
     ∙ ap Ok (each o is)
   where
-    each : (o : Option Direction) → Answers w pixels v k o → whole (grid w (length pixels)) (option_map (λ d. arc_of d v) o) ≡ option_map (λ d. whole_arc w d v) o
+    each : (o : Option Direction) → Answers w pixels v k o → whole (of_pixels w pixels) (option_map (λ d. arc_of d v) o) ≡ option_map (arc_to w pixels v) o
     each None at = refl
     each (Some d) at = rw (arc_there w (length pixels) d v (leads w pixels v k d at)) refl
+
+-- it is read from the two pixels' records in a table, of which the first n are laid
+pub arc_read : (w : ℕ) (table : List Pixel) (n : ℕ) (d : Direction) (v : ℕ) → n ≤ length table → joined w n d v ≡ true → arc_to w (take n table) v d ≡ (let u = neighbour w d v in record { code = arc_of d v; head = u; reverse = arc_of (opposite d) u; residual = residual_of (pixel_at table v) d; back = residual_of (pixel_at table u) (opposite d) })
+arc_read w table n d v room there =
+    let both = both_joined w n d v there in
+    let u = neighbour w d v in
+    rw (owner_of_arc d v, direction_of_arc d v, owner_of_arc (opposite d) u, direction_of_arc (opposite d) u, get_or-take n table v no_pixel both.pixel, get_or-take n table u no_pixel both.other) refl

@@ -2,7 +2,6 @@
 -- neighbour, of the code 4v and the direction's number.
 use Rattle.std.specs.Prelude.{◌≡◌, ℕ, ◌+◌, ◌-◌, ◌*◌, ◌/◌, ◌%◌, Bool, cond, ◌&&◌, List, [], ◌∷◌, map, filter, Some, None, ◌==◌, nat_le, nat_lt}
 use Rattle.network.specs.Nets.{Ends, Graph}
-use Rattle.network.specs.declared.arc.Arc.{Arc}
 use Rattle.tile.specs.declared.direction.Direction.{Direction}
 use Rattle.tile.specs.declared.direction.Direction.TheVariants.{Right, Left, Below, Above}
 
@@ -57,10 +56,6 @@ direction_of a = cond (a % 4 == 0) Right (cond (a % 4 == 1) Left (cond (a % 4 ==
 -- the ends of that arc, whose reverse is the neighbour's arc back
 abbrev pub joins : ℕ → Direction → ℕ → Ends
 joins w d v = record { tail = v; head = neighbour w d v; reverse = arc_of (opposite d) (neighbour w d v) }
-
--- that arc told whole
-abbrev pub whole_arc : ℕ → Direction → ℕ → Arc
-whole_arc w d v = record { code = arc_of d v; head = neighbour w d v; reverse = arc_of (opposite d) (neighbour w d v) }
 
 -- where pixel v has neighbours: at its right, at its left, below and above
 abbrev pub directions_of : ℕ → ℕ → ℕ → List Direction

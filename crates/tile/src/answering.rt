@@ -1,8 +1,8 @@
 // What a tile answers as a network.
 ghost use Rattle.std.specs.Prelude.{◌≡◌, ◌<◌, Ok, true, length};
 ghost use Rattle.std.specs.List.{slice_get};
-ghost use Rattle.network.specs.Answers.{at_arc, at_node};
-ghost use Rattle.tile.specs.Grids.{owner, direction_of, directions_of, joined, whole_arc};
+ghost use Rattle.network.specs.Answers.{arc_with, at_arc, at_node};
+ghost use Rattle.tile.specs.Grids.{owner, direction_of, directions_of, joined, joins, arc_of};
 ghost use Rattle.tile.specs.Pixels.{residual_of};
 ghost use Rattle.tile.specs.Tables.{pixel_at};
 ghost use Rattle.tile.specs.Values.{pixels_of, tile_value, tile_lawful, tile_keeps, tile_keeping};
@@ -61,13 +61,15 @@ impl<'a> Tile<'a> {
     #[inline(always)]
     fn arc(&self, node: usize, direction: Direction) -> Arc
         requires { joined self.now.width (length (pixels_of self.now)) direction node ≡ true }
-        ensures { result ≡ whole_arc self.now.width direction node }
+        ensures { result ≡ arc_with (tile_value self.now) (arc_of direction node) (joins self.now.width direction node) }
     {
-        let head = direction.neighbour(self.width, node);
+        let (head, back) = (direction.neighbour(self.width, node), direction.opposite());
         Arc {
             code: direction.arc(node),
             head,
-            reverse: direction.opposite().arc(head),
+            reverse: back.arc(head),
+            residual: u64::from(self.residual(node, direction)),
+            back: u64::from(self.residual(head, back)),
         }
     }
 }

@@ -11,11 +11,7 @@ release-requires g c =
     let l = g.N.Network.lawful c.args.self.now.net.now in
     let (k, stands, s) = c.loop-next.invariant in
     let (beside, _) = met g.N.Network.value stands c.in-Some.ensures.steps in
-    let inward = beside_inward l beside in
-    record {
-      there = (inward.0, inward.1);
-      inside = rw s.trees.size (inward_there (g.N.Network.value c.args.self.now.net.now) c.args.self.now.terminal c.args.node c.in-Some.next l inward);
-    }
+    rw s.trees.size (inward_there (g.N.Network.value c.args.self.now.net.now) c.args.self.now.terminal c.args.node c.in-Some.next l (beside_inward l beside))
 
 pub loop-next-preserved : goal.loop-next-preserved
 loop-next-preserved g c =

@@ -8,7 +8,7 @@ use Rattle.search.proofs.reading.NeighbourhoodIterator.next.Given as given
 use Rattle.search.proofs.reading.NeighbourhoodIterator.next.Goals as goal
 
 -- the arc at the place
-told : (g : given.Over) (c : goal.In_ok-arc g) → whole (g.N.Network.value c.args.self.now.net.now).graph (slice_get ((g.N.Network.value c.args.self.now.net.now).graph.arcs c.args.self.now.node) c.args.self.now.place) ≡ Some c.in_ok-arc.arc
+told : (g : given.Over) (c : goal.In_ok-arc g) → whole (g.N.Network.value c.args.self.now.net.now) (slice_get ((g.N.Network.value c.args.self.now.net.now).graph.arcs c.args.self.now.node) c.args.self.now.place) ≡ Some c.in_ok-arc.arc
 told g c = search rules
 
 pub overflow_add-self : goal.overflow_add-self
