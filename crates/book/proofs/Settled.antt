@@ -54,13 +54,13 @@ code_there b u k there inside =
     grind (arith, nat_tests, own.1)
 
 -- and the record of the place tells the arc whole
-pub whole_placed : (b : SealedBook) (u k : ℕ) → u < b.held.entries → k < (columns (sealed_table b)).arcs u → let c = columns (sealed_table b) in let p = c.first u + k in arc_answer (sealed_value b) u k ≡ Ok (Some (record { code = c.code p; head = c.to p; reverse = mate (c.code p) }))
+pub whole_placed : (b : SealedBook) (u k : ℕ) → u < b.held.entries → k < (columns (sealed_table b)).arcs u → let c = columns (sealed_table b) in let p = c.first u + k in arc_answer (sealed_value b) u k ≡ Ok (Some (record { code = c.code p; head = c.to p; reverse = mate (c.code p); residual = c.residual (c.code p); back = c.residual (mate (c.code p)) }))
 whole_placed b u k there inside =
     let c = columns (sealed_table b) in
     let n = b.held.entries in
     let m = b.held.needs in
     let code = code_there b u k there inside in
-    rw (lt-ltb u n there, placed c n m u k b.indexed there inside, lt-ltb (c.code (c.first u + k)) (2 * m) code, b.told u k there inside) refl
+    rw (lt-ltb u n there, placed c n m u k b.indexed there inside, lt-ltb (c.code (c.first u + k)) (2 * m) code, lt-ltb (mate (c.code (c.first u + k))) (2 * m) (mate_below (c.code (c.first u + k)) m code), b.told u k there inside) refl
 
 -- a take
 pub settled_amount : (c : Columns) (n m : ℕ) (t : Terminal) (u x : ℕ) → Settled c n m → x ≤ amount t (amounts_in c u) → Settled (with_amount_at c t u x) n m

@@ -68,7 +68,7 @@ impl<'a> Network for SealedBook<'a> {
         Ok(Some(usize::from(placed.code)))
     }
 
-    // The record of a place tells the arc's head too, so that the arc's own record is not read.
+    // The record of a place tells the arc's head too, so that the arc's own record is read for the residual alone.
     #[inline(always)]
     fn whole_arc_at(&self, node: usize, place: usize) -> Result<Option<Arc>, NetworkRefusal> {
         let entry = self.entry(node)?;
@@ -77,10 +77,13 @@ impl<'a> Network for SealedBook<'a> {
         }
         let placed = self.held.arc(usize::from(entry.first) + place);
         let code = usize::from(placed.code);
+        let reverse = mate(code);
         Ok(Some(Arc {
             code,
             head: usize::from(placed.to),
-            reverse: mate(code),
+            reverse,
+            residual: self.held.arc(code).residual,
+            back: self.held.arc(reverse).residual,
         }))
     }
 

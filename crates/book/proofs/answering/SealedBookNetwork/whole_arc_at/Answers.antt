@@ -12,12 +12,26 @@ returns-then-place-from c =
     let none = placed_past (columns (sealed_table b)) b.held.entries b.held.needs c.args.node c.args.place b.indexed there in
     grind (arith, nat_tests, none)
 
-pub mate-requires : goal.mate-requires
-mate-requires c =
+pub mate-reverse-requires : goal.mate-reverse-requires
+mate-reverse-requires c =
     let b = c.args.self.now in
     let there : c.args.node < b.held.entries = grind (arith, nat_tests) in
     let code = code_there b c.args.node c.args.place there in
     grind (arith, nat_tests, code, b.bound)
+
+pub arc-requires : goal.arc-requires
+arc-requires c =
+    let b = c.args.self.now in
+    let there : c.args.node < b.held.entries = grind (arith, nat_tests) in
+    let code = code_there b c.args.node c.args.place there in
+    grind (arith, nat_tests, code)
+
+pub arc-requires-2 : goal.arc-requires-2
+arc-requires-2 c =
+    let b = c.args.self.now in
+    let there : c.args.node < b.held.entries = grind (arith, nat_tests) in
+    let code = code_there b c.args.node c.args.place there in
+    grind (arith, nat_tests, code)
 
 pub returns : goal.returns
 returns c =
