@@ -15,7 +15,7 @@ use Rattle.book.specs.declared.record.Record.{Record}
 use Rattle.book.specs.declared.sealed.SealedBook.{SealedBook}
 use Rattle.book.specs.Books.{amount, mate, binding}
 use Rattle.book.specs.Records.{amount_of, with_amount, with_residual}
-use Rattle.book.specs.Tables.{Columns, columns, front, back, amounts_in, codes_from, arcs_of, network_in, SmallAmounts, HeadsThere, SmallPairs, Indexed, IndexInside, HeadsTold}
+use Rattle.book.specs.Tables.{Columns, columns, front, back, amounts_in, codes_from, arcs_of, network_in, SmallAmounts, HeadsThere, SmallPairs, Indexed, IndexInside}
 use Rattle.book.specs.Values.{sealed_table, sealed_value, sealed_lawful}
 use Rattle.book.proofs.Changes.{with_amount_at, with_moved}
 use Rattle.book.proofs.Keeping.{mate_below}
@@ -28,10 +28,9 @@ pub record Settled (c : Columns) (n m : ℕ) : Type 0 where
   pub pairs : SmallPairs c m
   pub indexed : Indexed c n m
   pub inside : IndexInside c n m
-  pub told : HeadsTold c n
 
 pub settled : (b : SealedBook) → Settled (columns (sealed_table b)) b.held.entries b.held.needs
-settled b = record { amounts = b.held.amounts; heads = b.held.heads; pairs = b.pairs; indexed = b.indexed; inside = b.inside; told = b.told }
+settled b = record { amounts = b.held.amounts; heads = b.held.heads; pairs = b.pairs; indexed = b.indexed; inside = b.inside }
 
 -- the arc at a place is the one that the index has there
 pub placed : (c : Columns) (n m u k : ℕ) → Indexed c n m → u < n → k < c.arcs u → slice_get (arcs_of c m u) k ≡ Some (c.code (c.first u + k))
@@ -53,14 +52,14 @@ code_there b u k there inside =
     let own = (sealed_lawful b).graph.own u k (c.code (c.first u + k)) there (placed c b.held.entries b.held.needs u k b.indexed there inside) in
     grind (arith, nat_tests, own.1)
 
--- and the record of the place tells the arc whole
-pub whole_placed : (b : SealedBook) (u k : ℕ) → u < b.held.entries → k < (columns (sealed_table b)).arcs u → let c = columns (sealed_table b) in let p = c.first u + k in arc_answer (sealed_value b) u k ≡ Ok (Some (record { code = c.code p; head = c.to p; reverse = mate (c.code p); residual = c.residual (c.code p); back = c.residual (mate (c.code p)) }))
+-- and its record and its reverse's tell the arc whole
+pub whole_placed : (b : SealedBook) (u k : ℕ) → u < b.held.entries → k < (columns (sealed_table b)).arcs u → let c = columns (sealed_table b) in let p = c.first u + k in arc_answer (sealed_value b) u k ≡ Ok (Some (record { code = c.code p; head = c.head (c.code p); reverse = mate (c.code p); residual = c.residual (c.code p); back = c.residual (mate (c.code p)) }))
 whole_placed b u k there inside =
     let c = columns (sealed_table b) in
     let n = b.held.entries in
     let m = b.held.needs in
     let code = code_there b u k there inside in
-    rw (lt-ltb u n there, placed c n m u k b.indexed there inside, lt-ltb (c.code (c.first u + k)) (2 * m) code, lt-ltb (mate (c.code (c.first u + k))) (2 * m) (mate_below (c.code (c.first u + k)) m code), b.told u k there inside) refl
+    rw (lt-ltb u n there, placed c n m u k b.indexed there inside, lt-ltb (c.code (c.first u + k)) (2 * m) code, lt-ltb (mate (c.code (c.first u + k))) (2 * m) (mate_below (c.code (c.first u + k)) m code)) refl
 
 -- a take
 pub settled_amount : (c : Columns) (n m : ℕ) (t : Terminal) (u x : ℕ) → Settled c n m → x ≤ amount t (amounts_in c u) → Settled (with_amount_at c t u x) n m
@@ -70,7 +69,6 @@ settled_amount c n m Source u x s less = record {
   pairs = s.pairs;
   indexed = s.indexed;
   inside = s.inside;
-  told = s.told;
 }
 settled_amount c n m Sink u x s less = record {
   amounts = λ k h. grind (arith, nat_tests, s.amounts k h);
@@ -78,7 +76,6 @@ settled_amount c n m Sink u x s less = record {
   pairs = s.pairs;
   indexed = s.indexed;
   inside = s.inside;
-  told = s.told;
 }
 
 pub value_amount : (c : Columns) (n m : ℕ) (t : Terminal) (u x : ℕ) → u < n → network_in (with_amount_at c t u x) n m ≡ with_terminal (network_in c n m) t u x
@@ -99,7 +96,6 @@ settled_moved c n m a x s there less = record {
   pairs = λ i h. grind (arith, nat_tests, s.pairs i h);
   indexed = s.indexed;
   inside = s.inside;
-  told = s.told;
 }
 
 pub value_moved : (c : Columns) (n m a x : ℕ) → a < 2 * m → network_in (with_moved c a (mate a) x) n m ≡ shifted (network_in c n m) a x

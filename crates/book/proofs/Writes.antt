@@ -64,10 +64,10 @@ put_front c u r = record c {
 
 -- arc a, and place a of the index, are told by the record r
 abbrev put_back : Columns → ℕ → Record → Columns
-put_back c a r = record c { head = at c.head a r.head; residual = at c.residual a r.residual; code = at c.code a r.code; to = at c.to a r.to }
+put_back c a r = record c { head = at c.head a r.head; residual = at c.residual a r.residual; code = at c.code a r.code }
 
 -- a record is written that tells another entry, and the same arc
-columns_front : (table : List Record) (u : ℕ) (r : Record) → u < length table → record r { head = (front table u).head; residual = (front table u).residual; code = (front table u).code; to = (front table u).to } ≡ r → columns (set table u r) ≡ put_front (columns table) u r
+columns_front : (table : List Record) (u : ℕ) (r : Record) → u < length table → record r { head = (front table u).head; residual = (front table u).residual; code = (front table u).code } ≡ r → columns (set table u r) ≡ put_front (columns table) u r
 columns_front table u r h arc = λ i. record {
   earning = λ k. front_read (λ (r : Record). r.earning) table u r k h i;
   cost = λ k. front_read (λ (r : Record). r.cost) table u r k h i;
@@ -79,11 +79,10 @@ columns_front table u r h arc = λ i. record {
   head = λ k. back_same (λ (r : Record). r.head) table u r k h (sym (ap (λ (r : Record). r.head) arc)) i;
   residual = λ k. back_same (λ (r : Record). r.residual) table u r k h (sym (ap (λ (r : Record). r.residual) arc)) i;
   code = λ k. back_same (λ (r : Record). r.code) table u r k h (sym (ap (λ (r : Record). r.code) arc)) i;
-  to = λ k. back_same (λ (r : Record). r.to) table u r k h (sym (ap (λ (r : Record). r.to) arc)) i;
 }
 
 -- and one that tells another arc, and the same entry
-columns_back : (table : List Record) (a : ℕ) (r : Record) → a < length table → record (front table (length table - 1 - a)) { head = r.head; residual = r.residual; code = r.code; to = r.to } ≡ r → columns (set table (length table - 1 - a) r) ≡ put_back (columns table) a r
+columns_back : (table : List Record) (a : ℕ) (r : Record) → a < length table → record (front table (length table - 1 - a)) { head = r.head; residual = r.residual; code = r.code } ≡ r → columns (set table (length table - 1 - a) r) ≡ put_back (columns table) a r
 columns_back table a r there entry =
     let j = length table - 1 - a in
     let h : j < length table = omega arith in
@@ -98,7 +97,6 @@ columns_back table a r there entry =
       head = λ k. back_read (λ (r : Record). r.head) table a r k there i;
       residual = λ k. back_read (λ (r : Record). r.residual) table a r k there i;
       code = λ k. back_read (λ (r : Record). r.code) table a r k there i;
-      to = λ k. back_read (λ (r : Record). r.to) table a r k there i;
     }
 
 -- writing what is there changes nothing
@@ -120,7 +118,7 @@ back_kept table a there =
     let c = columns table in
     let inside = lt-ltb a (length table) there in
     let here : front table (length table - 1 - a) ≡ back table a = rw inside refl in
-    ap (put_back c a) here ∙ (λ i. record c { head = at_id c.head a i; residual = at_id c.residual a i; code = at_id c.code a i; to = at_id c.to a i })
+    ap (put_back c a) here ∙ (λ i. record c { head = at_id c.head a i; residual = at_id c.residual a i; code = at_id c.code a i })
 
 pub columns_entry : (table : List Record) (u x y : ℕ) → u < length table → columns (set table u (as_entry (front table u) x y)) ≡ with_entry_at (columns table) u x y
 columns_entry table u x y h =
@@ -148,7 +146,7 @@ pub columns_amount : (table : List Record) (t : Terminal) (u x : ℕ) → u < le
 columns_amount table Source u x h = columns_front table u _ h refl ∙ (λ i. record (front_kept table u i) { earning = at (columns table).earning u x })
 columns_amount table Sink u x h = columns_front table u _ h refl ∙ (λ i. record (front_kept table u i) { cost = at (columns table).cost u x })
 
-pub columns_first : (table : List Record) (u x : ℕ) → u < length table → columns (set table u (with_first (front table u) x)) ≡ with_index (columns table) (at (columns table).first u x) (columns table).code (columns table).to
+pub columns_first : (table : List Record) (u x : ℕ) → u < length table → columns (set table u (with_first (front table u) x)) ≡ with_index (columns table) (at (columns table).first u x) (columns table).code
 columns_first table u x h = columns_front table u _ h refl ∙ (λ i. record (front_kept table u i) { first = at (columns table).first u x })
 
 pub columns_arc : (table : List Record) (a h x : ℕ) → a < length table → columns (set table (length table - 1 - a) (as_arc (front table (length table - 1 - a)) h x)) ≡ with_arc (columns table) a h x
@@ -159,8 +157,8 @@ columns_arc table a h x there =
 pub columns_residual : (table : List Record) (a x : ℕ) → a < length table → columns (set table (length table - 1 - a) (with_residual (front table (length table - 1 - a)) x)) ≡ with_residual_at (columns table) a x
 columns_residual table a x there = columns_back table a _ there refl ∙ (λ i. record (back_kept table a there i) { residual = at (columns table).residual a x })
 
-pub columns_place : (table : List Record) (p a h : ℕ) → p < length table → columns (set table (length table - 1 - p) (with_place (front table (length table - 1 - p)) a h)) ≡ with_index (columns table) (columns table).first (at (columns table).code p a) (at (columns table).to p h)
-columns_place table p a h there = columns_back table p _ there refl ∙ (λ i. record (back_kept table p there i) { code = at (columns table).code p a; to = at (columns table).to p h })
+pub columns_place : (table : List Record) (p a : ℕ) → p < length table → columns (set table (length table - 1 - p) (with_place (front table (length table - 1 - p)) a)) ≡ with_index (columns table) (columns table).first (at (columns table).code p a)
+columns_place table p a there = columns_back table p _ there refl ∙ (λ i. record (back_kept table p there i) { code = at (columns table).code p a })
 
 -- x is raised at arc b, after arc a has got another residual
 abbrev pub moved_at : List Record → ℕ → ℕ → ℕ → ℕ → List Record

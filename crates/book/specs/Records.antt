@@ -38,6 +38,6 @@ with_residual r x = record r { residual = x }
 abbrev pub with_first : Record → ℕ → Record
 with_first r k = record r { first = k }
 
--- a place of the index where the arc a stands, which leads to h
-abbrev pub with_place : Record → ℕ → ℕ → Record
-with_place r a h = record r { code = a; to = h }
+-- a place of the index where the arc a stands
+abbrev pub with_place : Record → ℕ → Record
+with_place r a = record r { code = a }

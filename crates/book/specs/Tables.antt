@@ -9,7 +9,7 @@ use Rattle.book.specs.Refusals.{among}
 
 -- the record past the end, which nothing reads
 abbrev pub no_record : Record
-no_record = record { earning = 0; cost = 0; needed = []; needs = 0; arcs = 0; first = 0; head = 0; residual = 0; code = 0; to = 0 }
+no_record = record { earning = 0; cost = 0; needed = []; needs = 0; arcs = 0; first = 0; head = 0; residual = 0; code = 0 }
 
 -- the record that is number u from the front, and the one that is number a from the end
 abbrev pub front : List Record → ℕ → Record
@@ -32,9 +32,8 @@ pub record Columns : Type 0 where
   pub first : ℕ → ℕ
   pub head : ℕ → ℕ
   pub residual : ℕ → ℕ
-  -- the code at a place of the index, and the head of the arc of this code
+  -- the code at a place of the index
   pub code : ℕ → ℕ
-  pub to : ℕ → ℕ
 
 abbrev pub columns : List Record → Columns
 columns table = record {
@@ -48,7 +47,6 @@ columns table = record {
   head = λ a. (back table a).head;
   residual = λ a. (back table a).residual;
   code = λ k. (back table k).code;
-  to = λ k. (back table k).to;
 }
 
 abbrev pub amounts_in : Columns → ℕ → Amounts
@@ -122,7 +120,3 @@ Indexed c n m = (u : ℕ) → u < n → codes_from c (c.first u) (c.arcs u) ≡ 
 
 abbrev pub IndexInside : Columns → ℕ → ℕ → Type 0
 IndexInside c n m = (u : ℕ) → u < n → c.first u + c.arcs u ≤ 2 * m
-
--- at each place of an entry, the index has the head of the arc whose code stands there
-abbrev pub HeadsTold : Columns → ℕ → Type 0
-HeadsTold c n = (u k : ℕ) → u < n → k < c.arcs u → c.to (c.first u + k) ≡ c.head (c.code (c.first u + k))

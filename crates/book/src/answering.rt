@@ -68,7 +68,6 @@ impl<'a> Network for SealedBook<'a> {
         Ok(Some(usize::from(placed.code)))
     }
 
-    // The record of a place tells the arc's head too, so that the arc's own record is read for the residual alone.
     #[inline(always)]
     fn whole_arc_at(&self, node: usize, place: usize) -> Result<Option<Arc>, NetworkRefusal> {
         let entry = self.entry(node)?;
@@ -78,11 +77,12 @@ impl<'a> Network for SealedBook<'a> {
         let placed = self.held.arc(usize::from(entry.first) + place);
         let code = usize::from(placed.code);
         let reverse = mate(code);
+        let arc = self.held.arc(code);
         Ok(Some(Arc {
             code,
-            head: usize::from(placed.to),
+            head: usize::from(arc.head),
             reverse,
-            residual: self.held.arc(code).residual,
+            residual: arc.residual,
             back: self.held.arc(reverse).residual,
         }))
     }

@@ -22,9 +22,8 @@ pub struct Record {
     // of an arc: the entry that it leads to, and its residual
     pub head: u16,
     pub residual: u64,
-    // the code of the arc that stands at this place of the index, once sealed, and the entry that this arc leads to
+    // the code of the arc that stands at this place of the index, once sealed
     pub code: u16,
-    pub to: u16,
 }
 
 impl Record {

@@ -1,6 +1,6 @@
 // A sealed book: a network over the same table, whose entries and needs no longer change.
 ghost use Rattle.std.specs.Prelude.{◌≤◌};
-ghost use Rattle.book.specs.Tables.{columns, SmallPairs, Indexed, IndexInside, HeadsTold};
+ghost use Rattle.book.specs.Tables.{columns, SmallPairs, Indexed, IndexInside};
 
 use super::held::Held;
 
@@ -11,5 +11,4 @@ pub struct SealedBook<'a> {
     ghost pairs: { SmallPairs (columns held.table.now) held.needs },
     ghost indexed: { Indexed (columns held.table.now) held.entries held.needs },
     ghost inside: { IndexInside (columns held.table.now) held.entries held.needs },
-    ghost told: { HeadsTold (columns held.table.now) held.entries },
 }

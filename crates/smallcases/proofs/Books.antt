@@ -68,7 +68,6 @@ columns_of b = record {
   head = need_head b.needs;
   residual = λ a. cond (eqb (a % 2) 0) binding 0;
   code = λ k. 0;
-  to = λ k. 0;
 }
 
 head_there : (b : Book) → Bounds b → (a : ℕ) → a < 2 * length b.needs → need_head b.needs a < length b.entries

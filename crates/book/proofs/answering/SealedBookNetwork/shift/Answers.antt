@@ -21,4 +21,4 @@ invariant_of-self c =
     let has = (back (sealed_table c.args.self.now) c.args.arc).residual in
     let left : (c.args.amount ≤ has) × (c.in_ok-left.left ≡ has - c.args.amount) = grind (arith, nat_tests) in
     let new = (after_shifted c.args.self.now c.args.arc c.args.amount c.in_ok-reverse.ensures left.0 left.1).settled in
-    record { bound = c.args.self.now.bound; pairs = new.pairs; indexed = new.indexed; inside = new.inside; told = new.told }
+    record { bound = c.args.self.now.bound; pairs = new.pairs; indexed = new.indexed; inside = new.inside }

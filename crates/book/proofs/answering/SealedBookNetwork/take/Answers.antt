@@ -7,4 +7,4 @@ returns-clause-after c = (after_taken c.args.self.now c.args.terminal c.args.nod
 pub invariant_of-self : goal.invariant_of-self
 invariant_of-self c =
     let new = (after_taken c.args.self.now c.args.terminal c.args.node c.args.amount c.in_ok-entry.ensures c.taken-taken.ensures c.in_ok-left.ensures.value).settled in
-    record { bound = c.args.self.now.bound; pairs = new.pairs; indexed = new.indexed; inside = new.inside; told = new.told }
+    record { bound = c.args.self.now.bound; pairs = new.pairs; indexed = new.indexed; inside = new.inside }

@@ -26,8 +26,8 @@ arc-requires c =
     let code = code_there b c.args.node c.args.place there in
     grind (arith, nat_tests, code)
 
-pub arc-requires-2 : goal.arc-requires-2
-arc-requires-2 c =
+pub arc-arc-requires : goal.arc-arc-requires
+arc-arc-requires c =
     let b = c.args.self.now in
     let there : c.args.node < b.held.entries = grind (arith, nat_tests) in
     let code = code_there b c.args.node c.args.place there in
