@@ -10,7 +10,7 @@ use Rattle.network.specs.declared.refusal.NetworkRefusal.TheVariants.{AboveResid
 use Rattle.network.specs.declared.terminal.Terminal.{Terminal}
 use Rattle.network.specs.declared.terminal.Terminal.TheVariants.{Source, Sink}
 use Rattle.network.specs.Nets.{Net, with_terminal, taken, shifted}
-use Rattle.network.specs.Answers.{at_node, at_arc, arc_answer, done, take_answer, after_take, shift_answer, after_shift}
+use Rattle.network.specs.Answers.{at_node, at_arc, arc_with, arc_answer, done, take_answer, after_take, shift_answer, after_shift}
 use Rattle.book.specs.declared.record.Record.{Record}
 use Rattle.book.specs.declared.sealed.SealedBook.{SealedBook}
 use Rattle.book.specs.Books.{amount, mate, binding}
@@ -59,7 +59,7 @@ whole_placed b u k there inside =
     let n = b.held.entries in
     let m = b.held.needs in
     let code = code_there b u k there inside in
-    rw (lt-ltb u n there, placed c n m u k b.indexed there inside, lt-ltb (c.code (c.first u + k)) (2 * m) code, lt-ltb (mate (c.code (c.first u + k))) (2 * m) (mate_below (c.code (c.first u + k)) m code)) refl
+    rw (lt-ltb u n there, placed c n m u k b.indexed there inside, arc_with, lt-ltb (c.code (c.first u + k)) (2 * m) code, lt-ltb (mate (c.code (c.first u + k))) (2 * m) (mate_below (c.code (c.first u + k)) m code)) refl
 
 -- a take
 pub settled_amount : (c : Columns) (n m : ℕ) (t : Terminal) (u x : ℕ) → Settled c n m → x ≤ amount t (amounts_in c u) → Settled (with_amount_at c t u x) n m
