@@ -12,7 +12,8 @@ use trees::Lane;
 
 // Looks at the arcs of a node that waited: free neighbours join its tree, and the first neighbour in the other tree ends the
 // search with the arc between them.
-pub(crate) fn scan<N: Network>(
+#[inline(always)]
+fn scan_for<N: Network>(
     net: &N,
     table: &mut Table,
     terminal: Terminal,
@@ -34,6 +35,26 @@ pub(crate) fn scan<N: Network>(
         }
     }
     None
+}
+
+// The same, compiled for each tree by itself.
+pub(crate) fn scan<N: Network>(
+    net: &N,
+    table: &mut Table,
+    terminal: Terminal,
+    node: usize,
+) -> Option<usize>
+    requires trees { TreesBut (N.Network.value net.now) (forest_of table.old) Waiting node }
+    requires there { node < (N.Network.value net.now).graph.nodes }
+    requires mine { (forest_of table.old).tree node ≡ Some terminal }
+    ensures trees { Scanned (N.Network.value net.now) node (forest_of table.new) result }
+    ensures grows { Grows (forest_of table.old) (forest_of table.new) }
+    ensures left { growth_left (N.Network.value net.now).graph.nodes (forest_of table.new) ≤ growth_left (N.Network.value net.now).graph.nodes (forest_of table.old) }
+{
+    match terminal {
+        Terminal::Source => scan_for(net, table, Terminal::Source, node),
+        Terminal::Sink => scan_for(net, table, Terminal::Sink, node),
+    }
 }
 
 // Grows both trees until they meet; none when neither can grow.

@@ -1,27 +1,45 @@
--- What stands at a place of the directions that pass a test: one that does not counts for nothing.
-use Rattle.std.proofs.Common.{◌≡◌, ℕ, zero, suc, ◌+◌, ◌-◌, ◌<◌, ◌≤◌, Bool, true, false, List, ◌∷◌, filter, length, drop, get_or, None, Some, Option, ap, ◌∙◌, refl, arith}
-use Rattle.std.proofs.lemmas.List.{drop_more, drop_all}
-use Rattle.std.specs.List.{slice_get}
+-- The table that tells the directions at a pixel's places.
+use Rattle.std.proofs.Common.{◌≡◌, ℕ, zero, suc, ◌^◌, ◌/◌, ◌%◌, ◌<◌, List, [], ◌∷◌, filter, map, None, Option, ap, ◌∙◌, refl, arith, slice_index_or, nat_eq}
+use Rattle.std.proofs.lemmas.List.FromFn.{get_or-map-range_with_len}
+use Rattle.std.specs.List.{slice_get, range_with_len}
 use Rattle.tile.specs.declared.direction.Direction.{Direction}
-use Rattle.tile.specs.declared.direction.Direction.TheVariants.{Right}
+use Rattle.tile.specs.declared.direction.Direction.TheVariants.{Right, Left, Below, Above}
+use Rattle.tile.specs.declared.neighbours.Neighbours.{Neighbours}
+use Rattle.tile.specs.Grids.{directions}
+use Rattle.tile.specs.Pixels.{has}
 
--- what stands at place j of those that pass from place k on
-abbrev pub passing : (Direction → Bool) → List Direction → ℕ → ℕ → Option Direction
-passing p xs k j = slice_get (filter p (drop k xs)) j
+-- what stands at the first four places of a list
+abbrev pub four : List Direction → List (Option Direction)
+four xs = slice_get xs 0 ∷ slice_get xs 1 ∷ slice_get xs 2 ∷ slice_get xs 3 ∷ []
 
--- the first of those
-first_is : (p : Direction → Bool) (xs : List Direction) (k j : ℕ) → k < length xs → passing p xs k j ≡ slice_get (filter p (get_or xs k Right ∷ drop (k + 1) xs)) j
-first_is p xs k j there = ap (λ ys. slice_get (filter p ys) j) (drop_more xs k Right there)
+-- the directions whose bits stand
+abbrev pub of_bits : ℕ → List Direction
+of_bits b = filter (has (record { bits = b })) directions
 
-pub passing_none : (p : Direction → Bool) (xs : List Direction) (k j : ℕ) → k < length xs → p (get_or xs k Right) ≡ false → passing p xs k j ≡ passing p xs (k + 1) j
-passing_none p xs k j there is = first_is p xs k j there ∙ rw is refl
+-- the table: each row has the directions of its bits
+abbrev pub rows : List (List (Option Direction))
+rows = map (λ b. four (of_bits b)) (range_with_len 0 16)
 
-pub passing_here : (p : Direction → Bool) (xs : List Direction) (k : ℕ) → k < length xs → p (get_or xs k Right) ≡ true → passing p xs k 0 ≡ Some (get_or xs k Right)
-passing_here p xs k there is = first_is p xs k 0 there ∙ rw is refl
+four_at : (xs : List Direction) (k : ℕ) → k < 4 → slice_index_or (four xs) k None ≡ slice_get xs k
+four_at xs zero inside = refl
+four_at xs (suc zero) inside = refl
+four_at xs (suc (suc zero)) inside = refl
+four_at xs (suc (suc (suc zero))) inside = refl
+four_at xs (suc (suc (suc (suc k)))) inside = absurd (omega arith)
 
-pub passing_later : (p : Direction → Bool) (xs : List Direction) (k j : ℕ) → k < length xs → p (get_or xs k Right) ≡ true → 0 < j → passing p xs k j ≡ passing p xs (k + 1) (j - 1)
-passing_later p xs k zero there is some = absurd (omega arith)
-passing_later p xs k (suc j) there is some = first_is p xs k (suc j) there ∙ rw is (ap (passing p xs (k + 1)) (omega arith))
+-- the bits past the four say nothing
+has_low : (x : Neighbours) (d : Direction) → has (record { bits = x.bits % 16 }) d ≡ has x d
+has_low x Right = ap (λ n. nat_eq n 1) {x = x.bits % 16 / 2 ^ 0 % 2} {y = x.bits / 2 ^ 0 % 2} (omega arith)
+has_low x Left = ap (λ n. nat_eq n 1) {x = x.bits % 16 / 2 ^ 1 % 2} {y = x.bits / 2 ^ 1 % 2} (omega arith)
+has_low x Below = ap (λ n. nat_eq n 1) {x = x.bits % 16 / 2 ^ 2 % 2} {y = x.bits / 2 ^ 2 % 2} (omega arith)
+has_low x Above = ap (λ n. nat_eq n 1) {x = x.bits % 16 / 2 ^ 3 % 2} {y = x.bits / 2 ^ 3 % 2} (omega arith)
 
-pub passing_end : (p : Direction → Bool) (xs : List Direction) (k j : ℕ) → length xs ≤ k → passing p xs k j ≡ None
-passing_end p xs k j past = rw (drop_all k xs past) refl
+of_low : (x : Neighbours) → of_bits (x.bits % 16) ≡ filter (has x) directions
+of_low x = rw (has_low x Right, has_low x Left, has_low x Below, has_low x Above) refl
+
+pub at_tells : (x : Neighbours) (k : ℕ) → k < 4 → slice_index_or (slice_index_or rows (x.bits % 16) []) k None ≡ slice_get (filter (has x) directions) k
+at_tells x k inside =
+    let b = x.bits % 16 in
+    ap (λ row. slice_index_or row k None) (get_or-map-range_with_len (λ b. four (of_bits b)) 0 16 b b [] (omega arith) (omega arith))
+    ∙ four_at (of_bits b) k inside
+    ∙ ap (λ xs. slice_get xs k) (of_low x)

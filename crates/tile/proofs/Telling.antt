@@ -11,7 +11,7 @@ use Rattle.network.specs.Answers.{at_node, arc_with, whole, arc_answer}
 use Rattle.tile.specs.declared.direction.Direction.{Direction}
 use Rattle.tile.specs.declared.direction.Direction.TheVariants.{Right, Left, Below, Above}
 use Rattle.tile.specs.declared.pixel.Pixel.{Pixel}
-use Rattle.tile.specs.Grids.{directions, opposite, neighbour, joined, arc_of, directions_of, joins, arcs_of, grid}
+use Rattle.tile.specs.Grids.{directions, opposite, neighbour, joined, arc_of, directions_of, joins, arcs_of}
 use Rattle.tile.specs.Laws.{owner_of_arc, direction_of_arc, both_joined, at_place, arc_there}
 use Rattle.tile.specs.Pixels.{has, residual_of}
 use Rattle.tile.specs.Tables.{no_pixel, pixel_at, of_pixels, Told}

@@ -1,9 +1,8 @@
 // What a tile answers as a network.
-ghost use Rattle.std.specs.Prelude.{◌≡◌, ◌<◌, Ok, true, length};
+ghost use Rattle.std.specs.Prelude.{◌≡◌, ◌<◌, Ok, true, length, slice_index};
 ghost use Rattle.std.specs.List.{slice_get};
 ghost use Rattle.network.specs.Answers.{arc_with, at_arc, at_node};
 ghost use Rattle.tile.specs.Grids.{owner, direction_of, directions_of, joined, joins, arc_of};
-ghost use Rattle.tile.specs.Pixels.{residual_of};
 ghost use Rattle.tile.specs.Tables.{pixel_at};
 ghost use Rattle.tile.specs.Values.{pixels_of, tile_value, tile_lawful, tile_keeps, tile_keeping};
 
@@ -47,14 +46,15 @@ impl<'a> Tile<'a> {
         }
     }
 
-    // What can still be sent from a pixel in a direction.
+    // What can still be sent from a pixel in the direction of a number.
     #[inline(always)]
-    fn residual(&self, pixel: usize, direction: Direction) -> u16
-        requires { pixel < length self.now.table.now }
-        ensures { result ≡ residual_of (pixel_at self.now.table.now pixel) direction }
+    fn residual(&self, pixel: usize, number: usize) -> u16
+        requires there { pixel < length self.now.table.now }
+        requires small { number < 4 }
+        ensures { result ≡ slice_index (pixel_at self.now.table.now pixel).residuals number }
     {
         let table = &*self.table;
-        table[pixel].residual(direction)
+        table[pixel].residuals[number]
     }
 
     // The arc of a node to its neighbour in a direction.
@@ -63,12 +63,12 @@ impl<'a> Tile<'a> {
         requires { joined self.now.width (length (pixels_of self.now)) direction node ≡ true }
         ensures { result ≡ arc_with (tile_value self.now) (arc_of direction node) (joins self.now.width direction node) }
     {
-        let (head, back) = (direction.neighbour(self.width, node), direction.opposite());
+        let (head, back) = (direction.neighbour(self.width, node), direction.back());
         Arc {
             code: direction.arc(node),
             head,
-            reverse: back.arc(head),
-            residual: u64::from(self.residual(node, direction)),
+            reverse: 4 * head + back,
+            residual: u64::from(self.residual(node, direction.number())),
             back: u64::from(self.residual(head, back)),
         }
     }
@@ -120,7 +120,7 @@ impl<'a> Network for Tile<'a> {
     #[inline(always)]
     fn arc_residual(&self, arc: usize) -> Result<u64, NetworkRefusal> {
         let (tail, direction) = self.origin(arc)?;
-        Ok(u64::from(self.residual(tail, direction)))
+        Ok(u64::from(self.residual(tail, direction.number())))
     }
 
     #[inline(always)]
@@ -136,12 +136,13 @@ impl<'a> Network for Tile<'a> {
     #[inline(always)]
     fn shift(&mut self, arc: usize, amount: u64) -> Result<(), NetworkRefusal> {
         let (tail, direction) = self.origin(arc)?;
-        let left = u64::from(self.residual(tail, direction)).checked_sub(amount);
+        let (number, back) = (direction.number(), direction.back());
+        let left = u64::from(self.residual(tail, number)).checked_sub(amount);
         let left = left.ok_or(NetworkRefusal::AboveResidual)?;
-        let (head, back) = (direction.neighbour(self.width, tail), direction.opposite());
+        let head = direction.neighbour(self.width, tail);
         let more = u64::from(self.residual(head, back)) + amount;
         let table = &mut *self.table;
-        table[tail].set_residual(direction, left as u16);
+        table[tail].set_residual(number, left as u16);
         table[head].set_residual(back, more as u16);
         Ok(())
     }

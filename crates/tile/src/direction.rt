@@ -1,6 +1,6 @@
 // The directions from a pixel to its neighbours, and the arcs that lead there.
 ghost use Rattle.std.specs.Prelude.{◌≡◌, ◌^◌, ◌<◌, ◌≤◌};
-ghost use Rattle.tile.specs.Grids.{directions, number, opposite, neighbour, LeadsBack, arc_of, direction_of};
+ghost use Rattle.tile.specs.Grids.{number, opposite, neighbour, LeadsBack, arc_of, direction_of};
 
 // No call takes one, but what a lay promises speaks of them.
 #[derive(Clone, Copy, PartialEq, Eq, Debug)]
@@ -20,13 +20,6 @@ static ALL: [Direction; 4] = [
 ];
 
 impl Direction {
-    // All directions, in the order of their numbers.
-    pub(crate) fn all() -> [Direction; 4]
-        ensures { result ≡ directions }
-    {
-        ALL
-    }
-
     #[inline(always)]
     pub(crate) fn number(self) -> usize
         ensures { result ≡ number self }
@@ -34,12 +27,12 @@ impl Direction {
         self as usize
     }
 
-    // The last bit of the number tells forth from back.
+    // The number of the opposite direction: the last bit tells forth from back.
     #[inline(always)]
-    pub(crate) fn opposite(self) -> Direction
-        ensures { result ≡ opposite self }
+    pub(crate) fn back(self) -> usize
+        ensures { result ≡ number (opposite self) }
     {
-        Direction::of(self.number() ^ 1)
+        self.number() ^ 1
     }
 
     // The neighbour of a pixel there, in rows of `width`: a place in a row or a whole row further on, or back.

@@ -7,6 +7,7 @@ ghost use Rattle.tile.specs.Tables.{Known};
 ghost use Rattle.tile.specs.Pixels.{has};
 
 use super::direction::Direction;
+use Direction::{Above, Below, Left, Right};
 
 // The column of the next pixel, in rows of `width`.
 pub(crate) fn column_after(width: usize, column: usize) -> usize
@@ -32,6 +33,27 @@ fn has_right(width: usize, pixels: usize, pixel: usize, column: usize) -> bool
 pub(crate) struct Neighbours {
     pub(crate) bits: u8,
 }
+
+// The directions at the places of a pixel, by the bits of those that are there. It is looked up at each arc, and a loop over the bits would
+// take a jump for each.
+static AT_PLACES: [[Option<Direction>; 4]; 16] = [
+    [None, None, None, None],
+    [Some(Right), None, None, None],
+    [Some(Left), None, None, None],
+    [Some(Right), Some(Left), None, None],
+    [Some(Below), None, None, None],
+    [Some(Right), Some(Below), None, None],
+    [Some(Left), Some(Below), None, None],
+    [Some(Right), Some(Left), Some(Below), None],
+    [Some(Above), None, None, None],
+    [Some(Right), Some(Above), None, None],
+    [Some(Left), Some(Above), None, None],
+    [Some(Right), Some(Left), Some(Above), None],
+    [Some(Below), Some(Above), None, None],
+    [Some(Right), Some(Below), Some(Above), None],
+    [Some(Left), Some(Below), Some(Above), None],
+    [Some(Right), Some(Left), Some(Below), Some(Above)],
+];
 
 impl Neighbours {
     // Which neighbours of a pixel are on a tile of so many pixels. Its column is told, since to find it takes a division.
@@ -63,27 +85,10 @@ impl Neighbours {
     pub(crate) fn at(self, place: usize) -> Option<Direction>
         ensures { result ≡ slice_get (filter (has self) directions) place }
     {
-        // nearly every pixel has all four neighbours
-        if self.bits == 15 {
-            (place < 4).then_some(Direction::of(place))
+        if place < 4 {
+            AT_PLACES[usize::from(self.bits % 16)][place]
         } else {
-            self.seek(place)
+            None
         }
-    }
-
-    // The same where some may be missing.
-    fn seek(self, place: usize) -> Option<Direction>
-        ensures { result ≡ slice_get (filter (has self) directions) place }
-    {
-        let mut before = place;
-        for direction in Direction::all() {
-            if self.has(direction) {
-                if before == 0 {
-                    return Some(direction);
-                }
-                before -= 1;
-            }
-        }
-        None
     }
 }

@@ -1,8 +1,7 @@
 // One record of a tile's table: which neighbours a pixel has, its residuals, and how they are read and changed.
-ghost use Rattle.std.specs.Prelude.{◌≡◌, length};
-ghost use Rattle.tile.specs.Pixels.{terminal_of, put_terminal, residual_of, put_residual};
+ghost use Rattle.std.specs.Prelude.{◌≡◌, ◌<◌, length, slice_set};
+ghost use Rattle.tile.specs.Pixels.{terminal_of, put_terminal};
 
-use super::direction::Direction;
 use super::neighbours::Neighbours;
 use network::Terminal;
 
@@ -38,19 +37,12 @@ impl Pixel {
             Terminal::Sink => self.sink = residual,
         }
     }
-
-    // What can still be sent to the neighbour in a direction.
+    // Puts what can still be sent to the neighbour in the direction of a number.
     #[inline(always)]
-    pub(crate) fn residual(&self, direction: Direction) -> u16
-        ensures { result ≡ residual_of self.now direction }
+    pub(crate) fn set_residual(&mut self, number: usize, residual: u16)
+        requires { number < 4 }
+        ensures { self.new ≡ record self.old { residuals = slice_set self.old.residuals number residual } }
     {
-        self.residuals[direction.number()]
-    }
-
-    #[inline(always)]
-    pub(crate) fn set_residual(&mut self, direction: Direction, residual: u16)
-        ensures { self.new ≡ put_residual self.old direction residual }
-    {
-        self.residuals[direction.number()] = residual;
+        self.residuals[number] = residual;
     }
 }

@@ -4,7 +4,7 @@ use Rattle.std.proofs.lemmas.Bool.Decides.{nat_tests}
 use Rattle.std.proofs.lemmas.List.{length-take-le, drop-set-lt}
 use Rattle.network.specs.Answers.{done, shift_answer}
 use Rattle.network.specs.declared.refusal.NetworkRefusal.TheVariants.{AboveResidual}
-use Rattle.tile.specs.Grids.{owner, direction_of, opposite, neighbour, joined}
+use Rattle.tile.specs.Grids.{owner, direction_of, number, opposite, neighbour, joined}
 use Rattle.tile.specs.Pixels.{residual_of, put_residual}
 use Rattle.tile.specs.Tables.{pixel_at, of_pixels, SmallPairs}
 use Rattle.tile.specs.Laws.{both_joined}
@@ -33,7 +33,8 @@ overflow_cast-more c =
     let pair = table_pair x.width x.table.now n a x.room there x.pairs in
     let at : c.in_ok-tail.tail ≡ owner a = grind (arith, nat_tests) in
     let way : c.in_ok-tail.direction ≡ direction_of a = grind (arith, nat_tests) in
-    let less : c.args.amount ≤ residual_of (pixel_at x.table.now (owner a)) (direction_of a) = rw (← at, ← way) (grind (arith, nat_tests)) in
+    let forth : c.number-number.result ≡ number (direction_of a) = rw (← way) c.number-number.ensures in
+    let less : c.args.amount ≤ residual_of (pixel_at x.table.now (owner a)) (direction_of a) = rw (← at, ← forth) (grind (arith, nat_tests)) in
     let back : c.residual-2.result ≡ residual_of (pixel_at x.table.now (neighbour x.width (direction_of a) (owner a))) (opposite (direction_of a)) = rw (← at, ← way) (grind arith) in
     omega (arith, pair, less, back, c.from-2.ensures)
 
@@ -51,11 +52,12 @@ invariant_of-self c =
     let at : c.in_ok-tail.tail ≡ v = grind (arith, nat_tests) in
     let way : c.in_ok-tail.direction ≡ d = grind (arith, nat_tests) in
     let head : c.neighbour-head.result ≡ u = rw (← at, ← way) c.neighbour-head.ensures in
-    let back : c.opposite-back.result ≡ opposite d = rw (← way) c.opposite-back.ensures in
-    let less : c.args.amount ≤ residual_of (pixel_at table v) d = rw (← at, ← way) (grind (arith, nat_tests)) in
-    let lower : c.in_ok-left.left ≡ residual_of (pixel_at table v) d - c.args.amount = rw (← at, ← way) (grind (arith, nat_tests)) in
+    let forth : c.number-number.result ≡ number d = rw (← way) c.number-number.ensures in
+    let back : c.back-back.result ≡ number (opposite d) = rw (← way) c.back-back.ensures in
+    let less : c.args.amount ≤ residual_of (pixel_at table v) d = rw (← at, ← forth) (grind (arith, nat_tests)) in
+    let lower : c.in_ok-left.left ≡ residual_of (pixel_at table v) d - c.args.amount = rw (← at, ← forth) (grind (arith, nat_tests)) in
     let raise : c.from-2.result + c.args.amount ≡ residual_of (pixel_at table u) (opposite d) + c.args.amount = rw (← head, ← back) (omega (arith, c.from-2.ensures, c.residual-2.ensures)) in
-    let first : c.set_residual.new.self ≡ put_residual (pixel_at table v) d c.in_ok-left.left = rw (← at, ← way) c.set_residual.ensures in
+    let first : c.set_residual.new.self ≡ put_residual (pixel_at table v) d c.in_ok-left.left = rw (← at, ← forth) c.set_residual.ensures in
     let second : c.set_residual-2.new.self ≡ put_residual (pixel_at (set table v c.set_residual.new.self) u) (opposite d) (c.from-2.result + c.args.amount) = rw (← head, ← back, ← at) c.set_residual-2.ensures in
     let (told, value) = table_shifted x.width table n a c.args.amount c.in_ok-left.left (c.from-2.result + c.args.amount) c.set_residual.new.self c.set_residual-2.new.self x.room there x.told lower raise first second in
     let pairs = subst SmallPairs (sym value) (pairs_shifted x.width table n a c.args.amount x.room there less (tile_lawful x) x.pairs) in
@@ -90,11 +92,12 @@ returns-clause-after c =
     let at : c.in_ok-tail.tail ≡ v = grind (arith, nat_tests) in
     let way : c.in_ok-tail.direction ≡ d = grind (arith, nat_tests) in
     let head : c.neighbour-head.result ≡ u = rw (← at, ← way) c.neighbour-head.ensures in
-    let back : c.opposite-back.result ≡ opposite d = rw (← way) c.opposite-back.ensures in
-    let less : c.args.amount ≤ residual_of (pixel_at table v) d = rw (← at, ← way) (grind (arith, nat_tests)) in
-    let lower : c.in_ok-left.left ≡ residual_of (pixel_at table v) d - c.args.amount = rw (← at, ← way) (grind (arith, nat_tests)) in
+    let forth : c.number-number.result ≡ number d = rw (← way) c.number-number.ensures in
+    let back : c.back-back.result ≡ number (opposite d) = rw (← way) c.back-back.ensures in
+    let less : c.args.amount ≤ residual_of (pixel_at table v) d = rw (← at, ← forth) (grind (arith, nat_tests)) in
+    let lower : c.in_ok-left.left ≡ residual_of (pixel_at table v) d - c.args.amount = rw (← at, ← forth) (grind (arith, nat_tests)) in
     let raise : c.from-2.result + c.args.amount ≡ residual_of (pixel_at table u) (opposite d) + c.args.amount = rw (← head, ← back) (omega (arith, c.from-2.ensures, c.residual-2.ensures)) in
-    let first : c.set_residual.new.self ≡ put_residual (pixel_at table v) d c.in_ok-left.left = rw (← at, ← way) c.set_residual.ensures in
+    let first : c.set_residual.new.self ≡ put_residual (pixel_at table v) d c.in_ok-left.left = rw (← at, ← forth) c.set_residual.ensures in
     let second : c.set_residual-2.new.self ≡ put_residual (pixel_at (set table v c.set_residual.new.self) u) (opposite d) (c.from-2.result + c.args.amount) = rw (← head, ← back, ← at) c.set_residual-2.ensures in
     let (told, value) = table_shifted x.width table n a c.args.amount c.in_ok-left.left (c.from-2.result + c.args.amount) c.set_residual.new.self c.set_residual-2.new.self x.room there x.told lower raise first second in
     let accepted : shift_answer (of_pixels x.width (take n table)) a c.args.amount ≡ done = table_answer x.width table n a c.args.amount x.room there ∙ rw (le-leb c.args.amount (residual_of (pixel_at table v) d) less) refl in

@@ -1,4 +1,4 @@
-use Rattle.std.proofs.Common.{◌*◌, sym, arith, ap, ◌∙◌}
+use Rattle.std.proofs.Common.{◌*◌, sym, arith, ◌∙◌}
 use Rattle.std.proofs.lemmas.List.{length-take-le}
 use Rattle.tile.proofs.Telling.{arc_read}
 use Rattle.tile.proofs.tile.Tile.arc.Goals as goal

@@ -2,7 +2,7 @@ use Rattle.std.proofs.Common.{ℕ}
 use Rattle.search.specs.Readings.{Stands}
 use Rattle.search.specs.Tables.{forest_of}
 use Rattle.search.proofs.Scanning.{Scanning}
-use Rattle.search.proofs.growth.scan.Given as goal
+use Rattle.search.proofs.growth.scan_for.Given as goal
 
 -- the places below the iterator's are done
 abbrev pub invariant-loop-next : goal.invariant-loop-next

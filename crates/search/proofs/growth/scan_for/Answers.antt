@@ -3,8 +3,8 @@ use Rattle.trees.proofs.Ending.{is_of_some}
 use Rattle.search.specs.Tables.{forest_of}
 use Rattle.search.proofs.Neighbours.{met, past_last, few_numbers}
 use Rattle.search.proofs.Scanning.{scanning_there, scanning_more, scanning_grown, scanning_ends}
-use Rattle.search.proofs.growth.scan.Goals as goal
-use Rattle.search.proofs.growth.scan.Goals.{else-not-is_in-via-then-not-is_in+else-next-gt0, else-not-is_in-via-else-not-is_in}
+use Rattle.search.proofs.growth.scan_for.Goals as goal
+use Rattle.search.proofs.growth.scan_for.Goals.{else-not-is_in-via-then-not-is_in+else-next-gt0, else-not-is_in-via-else-not-is_in}
 
 pub is_in-requires : goal.is_in-requires
 is_in-requires g c = scanning_there g.N.Network.value (g.N.Network.lawful c.args.net.now) c.loop-next.invariant c.in-Some.ensures.steps
