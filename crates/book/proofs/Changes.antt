@@ -7,15 +7,15 @@ use Rattle.book.specs.Tables.{Columns}
 
 -- u is an entry of these amounts, without needs and arcs
 abbrev pub with_entry_at : Columns → ℕ → ℕ → ℕ → Columns
-with_entry_at c u x y = record c { earning = at c.earning u x; cost = at c.cost u y; needed = at c.needed u []; count = at c.count u 0; space = at c.space u 4; arcs = at c.arcs u 0 }
+with_entry_at c u x y = record c { earning = at c.earning u x; cost = at c.cost u y; needed = at c.needed u []; needs_or_first = at c.needs_or_first u 0; space = at c.space u 4; arcs = at c.arcs u 0 }
 
--- arc a leads to h, and has this residual
+-- arc a leads to h, has this residual, and is an empty place of the index
 abbrev pub with_arc : Columns → ℕ → ℕ → ℕ → Columns
-with_arc c a h r = record c { head = at c.head a h; residual = at c.residual a r }
+with_arc c a h r = record c { head = at c.head a h; residual = at c.residual a r; code = at c.code a 0 }
 
 -- u needs w too, and has one arc more
 abbrev pub with_needed : Columns → ℕ → ℕ → Columns
-with_needed c u w = record c { needed = at c.needed u (c.needed u ++ w ∷ []); count = at c.count u (c.count u + 1); arcs = at c.arcs u (c.arcs u + 1) }
+with_needed c u w = record c { needed = at c.needed u (c.needed u ++ w ∷ []); needs_or_first = at c.needs_or_first u (c.needs_or_first u + 1); arcs = at c.arcs u (c.arcs u + 1) }
 
 -- u has so many arcs
 abbrev pub with_arcs : Columns → ℕ → ℕ → Columns

@@ -21,13 +21,13 @@ use Rattle.book.proofs.Keeping.{Kept, kept_entry}
 
 -- an open book of n entries and m needs over the table
 abbrev pub standing : MutBor (List Record) → ℕ → ℕ → Open
-standing lent n m = record { table = lent; book = book_in (columns lent.now) n m }
+standing lent n m = record { table = lent; book = book_in (columns lent.now n m) n m }
 
 -- what holds of its table
 pub record Fine (table : List Record) (n m : ℕ) : Type 0 where
   pub few : n ≤ 4096
   pub room : n + 2 * m ≤ length table
-  pub kept : Kept (columns table) n m
+  pub kept : Kept (columns table n m) n m
 
 -- the table of an open book is fine
 pub fine : (b : OpenBook) → Fine b.held.table.now b.held.entries b.held.needs
@@ -37,11 +37,11 @@ fine b = record {
   kept = record { amounts = b.held.amounts; heads = b.held.heads; unsent = b.unsent; noted = b.noted; four = b.four; counted = b.counted; others = b.others; once = b.once; arcs = b.arcs };
 }
 
-pub entry_count : (table : List Record) (n m : ℕ) → length (book_in (columns table) n m).entries ≡ n
-entry_count table n m = length-map-range_with_len (amounts_in (columns table)) 0 n
+pub entry_count : (table : List Record) (n m : ℕ) → length (book_in (columns table n m) n m).entries ≡ n
+entry_count table n m = length-map-range_with_len (amounts_in (columns table n m)) 0 n
 
-pub need_count : (table : List Record) (n m : ℕ) → length (book_in (columns table) n m).needs ≡ m
-need_count table n m = length-map-range_with_len (need_in (columns table)) 0 m
+pub need_count : (table : List Record) (n m : ℕ) → length (book_in (columns table n m) n m).needs ≡ m
+need_count table n m = length-map-range_with_len (need_in (columns table n m)) 0 m
 
 pub unused_count : (lent : MutBor (List Record)) (n m : ℕ) → unused (standing lent n m) ≡ length lent.now - n - 2 * m
 unused_count lent n m = omega (arith, entry_count lent.now n m, need_count lent.now n m)
@@ -66,11 +66,11 @@ entry_written table n x y = set table n (as_entry (front table n) x y)
 
 fine_entry : (table : List Record) (n m x y spare : ℕ) → Fine table n m → Enters x y n spare → spare ≡ length table - n - 2 * m → Fine (entry_written table n x y) (n + 1) m
 fine_entry table n m x y spare f e is =
-    let inside : n < length table = omega (arith, e.room) in
+    let inside : n + 2 * m < length table = omega (arith, e.room) in
     record {
       few = omega (arith, e.few);
       room = omega (arith, e.room, length-set table n (as_entry (front table n) x y));
-      kept = subst (λ (c : Columns). Kept c (n + 1) m) (sym (columns_entry table n x y inside)) (kept_entry (columns table) n m x y f.kept e.small_earning e.small_cost);
+      kept = subst (λ (c : Columns). Kept c (n + 1) m) (sym (columns_entry table n m x y inside)) (kept_entry (columns table n m) n m x y f.kept e.small_earning e.small_cost);
     }
 
 -- it holds what it held, and the entry
@@ -89,13 +89,13 @@ pub record After (lent : MutBor (List Record)) (n m x y : ℕ) (new : List Recor
 after_written : (lent : MutBor (List Record)) (n m x y spare : ℕ) → Fine lent.now n m → Enters x y n spare → spare ≡ length lent.now - n - 2 * m → enter_refused (standing lent n m) x y ≡ None → After lent n m x y (entry_written lent.now n x y)
 after_written lent n m x y spare f e is none =
     let table = lent.now in
-    let inside : n < length table = omega (arith, e.room) in
+    let inside : n + 2 * m < length table = omega (arith, e.room) in
     record {
       fine = fine_entry table n m x y spare f e is;
       entered = (
         none,
         sym (entry_count table n m),
-        ap (λ (c : Columns). book_in c (n + 1) m) (columns_entry table n x y inside) ∙ book_entry (columns table) n m x y,
+        ap (λ (c : Columns). book_in c (n + 1) m) (columns_entry table n m x y inside) ∙ book_entry (columns table n m) n m x y,
         record {
           same_table = refl;
           untouched = (length-set table n _, λ k free. front_far table n _ k (λ is. omega (arith, free, entry_count (entry_written table n x y) (n + 1) m)));

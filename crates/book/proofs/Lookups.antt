@@ -11,6 +11,7 @@ use Rattle.book.specs.Books.{Amounts, no_amounts}
 use Rattle.book.specs.Tables.{columns, no_record, amounts_in}
 use Rattle.book.specs.Values.{open_of}
 use Rattle.book.proofs.Needings.{front_of, entries_long}
+use Rattle.book.proofs.Writes.{entry_there}
 
 -- the amounts in an entry's record
 abbrev pub amounts_of : Record → Amounts
@@ -21,7 +22,8 @@ pub amounts_asked : (b : OpenBook) (u : ℕ) {entries : List Record} → entries
 amounts_asked b u {entries} is =
     let table = b.held.table.now in
     let n = b.held.entries in
+    let m = b.held.needs in
     let long = entries_long b is in
-    let each : (k : ℕ) → k < n → get_or (map amounts_of entries) k no_amounts ≡ amounts_in (columns table) k = λ k there. get_or-map amounts_of entries k no_record no_amounts (omega (arith, long)) ∙ rw is (ap amounts_of (front_of table n k there)) in
-    let told : map amounts_of entries ≡ (open_of b).book.entries = fill_by_all (amounts_in (columns table)) (map amounts_of entries) n no_amounts (length-map entries amounts_of ∙ long) each in
+    let each : (k : ℕ) → k < n → get_or (map amounts_of entries) k no_amounts ≡ amounts_in (columns table n m) k = λ k there. get_or-map amounts_of entries k no_record no_amounts (omega (arith, long)) ∙ rw is (ap amounts_of (front_of table n k there ∙ sym (entry_there table n k there))) in
+    let told : map amounts_of entries ≡ (open_of b).book.entries = fill_by_all (amounts_in (columns table n m)) (map amounts_of entries) n no_amounts (length-map entries amounts_of ∙ long) each in
     ap (λ xs. slice_get xs u) (sym told) ∙ slice_get-map amounts_of entries u

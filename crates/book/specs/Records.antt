@@ -1,20 +1,32 @@
 -- How a record is changed.
-use Rattle.std.specs.Prelude.{ℕ, ◌+◌, [], ◌∷◌, slice_set}
+use Rattle.std.specs.Prelude.{ℕ, ◌+◌, ◌*◌, ◌/◌, ◌%◌, ◌^◌, [], ◌∷◌, List, take, slice_set}
 use Rattle.network.specs.declared.terminal.Terminal.{Terminal}
 use Rattle.network.specs.declared.terminal.Terminal.TheVariants.{Source, Sink}
 use Rattle.book.specs.declared.record.Record.{Record}
 
 -- an entry of these amounts, without needs
 abbrev pub as_entry : Record → ℕ → ℕ → Record
-as_entry r x y = record r { earning = x; cost = y; needed = 0 ∷ 0 ∷ 0 ∷ 0 ∷ []; needs = 0; arcs = 0 }
+as_entry r x y = record r { earning = x; cost = y; needed = 0 ∷ 0 ∷ 0 ∷ 0 ∷ []; needs_or_first = 0; arcs = 0 }
 
--- an arc that leads to h
+-- what can be sent along an arc: the low 32 bits, and the others
+abbrev pub residual_of : Record → ℕ
+residual_of r = r.earning + 2 ^ 32 * r.cost
+
+-- an arc of another residual
+abbrev pub with_residual : Record → ℕ → Record
+with_residual r x = record r { earning = x % 2 ^ 32; cost = x / 2 ^ 32 }
+
+-- an arc that leads to h, and an empty place of the index
 abbrev pub as_arc : Record → ℕ → ℕ → Record
-as_arc r h x = record r { head = h; residual = x }
+as_arc r h x = with_residual (record r { head = h; code = 0 }) x
+
+-- the entries that an entry needs
+abbrev pub needed_of : Record → List ℕ
+needed_of r = take r.needs_or_first r.needed
 
 -- an entry that needs one more, with the arc to it
 abbrev pub needing : Record → ℕ → Record
-needing r w = record r { needed = slice_set r.needed r.needs w; needs = r.needs + 1; arcs = r.arcs + 1 }
+needing r w = record r { needed = slice_set r.needed r.needs_or_first w; needs_or_first = r.needs_or_first + 1; arcs = r.arcs + 1 }
 
 -- an entry that one arc more leaves
 abbrev pub with_arc_more : Record → Record
@@ -30,13 +42,9 @@ abbrev pub with_amount : Record → Terminal → ℕ → Record
 with_amount r Source x = record r { earning = x }
 with_amount r Sink x = record r { cost = x }
 
--- an arc of another residual
-abbrev pub with_residual : Record → ℕ → Record
-with_residual r x = record r { residual = x }
-
 -- an entry whose arcs begin at another place of the index
 abbrev pub with_first : Record → ℕ → Record
-with_first r k = record r { first = k }
+with_first r k = record r { needs_or_first = k }
 
 -- a place of the index where the arc a stands
 abbrev pub with_place : Record → ℕ → Record

@@ -1,53 +1,64 @@
 -- How a table holds a book: entries from its front, the arcs of needs from its end.
-use Rattle.std.specs.Prelude.{◌≡◌, ℕ, ◌+◌, ◌-◌, ◌*◌, ◌<◌, ◌≤◌, false, cond, List, [], map, length, take, nat_lt, slice_index_or}
+use Rattle.std.specs.Prelude.{◌≡◌, ℕ, ◌+◌, ◌-◌, ◌*◌, ◌<◌, ◌≤◌, false, cond, List, [], map, length, nat_lt, slice_index_or}
 use Rattle.std.specs.List.{range_with_len}
 use Rattle.network.specs.Nets.{Net, Distinct}
 use Rattle.network.specs.Cuts.{sum_below}
 use Rattle.book.specs.declared.record.Record.{Record}
 use Rattle.book.specs.Books.{Amounts, Need, Book, needs_of, amount, arcs_from, paired, binding}
+use Rattle.book.specs.Records.{needed_of, residual_of}
 use Rattle.book.specs.Refusals.{among}
 
 -- the record past the end, which nothing reads
 abbrev pub no_record : Record
-no_record = record { earning = 0; cost = 0; needed = []; needs = 0; arcs = 0; first = 0; head = 0; residual = 0; code = 0 }
+no_record = record { earning = 0; cost = 0; needed = []; needs_or_first = 0; arcs = 0; head = 0; code = 0 }
 
 -- the record that is number u from the front, and the one that is number a from the end
 abbrev pub front : List Record → ℕ → Record
 front table u = slice_index_or table u no_record
 
 abbrev pub back : List Record → ℕ → Record
-back table a = cond (nat_lt a (length table)) (slice_index_or table (length table - 1 - a) no_record) no_record
+back table a = front table (length table - 1 - a)
 
--- what the records say: of entries from the front, of arcs and of places of the index from the end
+-- the record of an entry that is one of n, and that of an arc, or of a place of the index, that is among those of m needs
+abbrev pub entry_record : ℕ → List Record → ℕ → Record
+entry_record n table u = cond (nat_lt u n) (front table u) no_record
+
+abbrev pub arc_record : ℕ → List Record → ℕ → Record
+arc_record m table a = cond (nat_lt a (2 * m)) (back table a) no_record
+
+-- what the records say: of entries, and of arcs and places of the index
 pub record Columns : Type 0 where
   pub earning : ℕ → ℕ
   pub cost : ℕ → ℕ
   -- the entries that an entry needs
   pub needed : ℕ → List ℕ
-  -- how many they are, and how many there is room for
-  pub count : ℕ → ℕ
+  -- how many they are, or once sealed the place of the entry's first arc in the index; and how many there is room for
+  pub needs_or_first : ℕ → ℕ
   pub space : ℕ → ℕ
-  -- how many arcs leave an entry, and the place of the first in the index
+  -- how many arcs leave an entry
   pub arcs : ℕ → ℕ
-  pub first : ℕ → ℕ
   pub head : ℕ → ℕ
   pub residual : ℕ → ℕ
   -- the code at a place of the index
   pub code : ℕ → ℕ
 
-abbrev pub columns : List Record → Columns
-columns table = record {
-  earning = λ u. (front table u).earning;
-  cost = λ u. (front table u).cost;
-  needed = λ u. take (front table u).needs (front table u).needed;
-  count = λ u. (front table u).needs;
-  space = λ u. length (front table u).needed;
-  arcs = λ u. (front table u).arcs;
-  first = λ u. (front table u).first;
-  head = λ a. (back table a).head;
-  residual = λ a. (back table a).residual;
-  code = λ k. (back table k).code;
+-- those of such entries and such arcs
+abbrev pub told : (ℕ → Record) → (ℕ → Record) → Columns
+told entry arc = record {
+  earning = λ u. (entry u).earning;
+  cost = λ u. (entry u).cost;
+  needed = λ u. needed_of (entry u);
+  needs_or_first = λ u. (entry u).needs_or_first;
+  space = λ u. length (entry u).needed;
+  arcs = λ u. (entry u).arcs;
+  head = λ a. (arc a).head;
+  residual = λ a. residual_of (arc a);
+  code = λ k. (arc k).code;
 }
+
+-- and of a table with n entries and m needs
+abbrev pub columns : List Record → ℕ → ℕ → Columns
+columns table n m = told (entry_record n table) (arc_record m table)
 
 abbrev pub amounts_in : Columns → ℕ → Amounts
 amounts_in c u = record { earning = c.earning u; cost = c.cost u }
@@ -89,7 +100,7 @@ abbrev pub NeedsNoted : Columns → ℕ → ℕ → Type 0
 NeedsNoted c n m = (u : ℕ) → u < n → c.needed u ≡ needs_of u (book_in c n m).needs
 
 abbrev pub AtMostFour : Columns → ℕ → Type 0
-AtMostFour c n = (u : ℕ) → u < n → (length (c.needed u) ≤ 4) × (c.count u ≡ length (c.needed u)) × (c.space u ≡ 4)
+AtMostFour c n = (u : ℕ) → u < n → (length (c.needed u) ≤ 4) × (c.needs_or_first u ≡ length (c.needed u)) × (c.space u ≡ 4)
 
 -- so there are as many needs as the entries have together
 abbrev pub NeedsCounted : Columns → ℕ → ℕ → Type 0
@@ -116,7 +127,7 @@ codes_from c first k = map (λ j. c.code (first + j)) (range_with_len 0 k)
 
 -- the arcs of each entry stand in the index, from the entry's first place on
 abbrev pub Indexed : Columns → ℕ → ℕ → Type 0
-Indexed c n m = (u : ℕ) → u < n → codes_from c (c.first u) (c.arcs u) ≡ arcs_of c m u
+Indexed c n m = (u : ℕ) → u < n → codes_from c (c.needs_or_first u) (c.arcs u) ≡ arcs_of c m u
 
 abbrev pub IndexInside : Columns → ℕ → ℕ → Type 0
-IndexInside c n m = (u : ℕ) → u < n → c.first u + c.arcs u ≤ 2 * m
+IndexInside c n m = (u : ℕ) → u < n → c.needs_or_first u + c.arcs u ≤ 2 * m

@@ -64,7 +64,7 @@ impl<'a> Network for SealedBook<'a> {
         if place >= usize::from(entry.arcs) {
             return Ok(None);
         }
-        let placed = self.held.arc(usize::from(entry.first) + place);
+        let placed = self.held.arc(usize::from(entry.needs_or_first) + place);
         Ok(Some(usize::from(placed.code)))
     }
 
@@ -74,7 +74,7 @@ impl<'a> Network for SealedBook<'a> {
         if place >= usize::from(entry.arcs) {
             return Ok(None);
         }
-        let placed = self.held.arc(usize::from(entry.first) + place);
+        let placed = self.held.arc(usize::from(entry.needs_or_first) + place);
         let code = usize::from(placed.code);
         let reverse = mate(code);
         let arc = self.held.arc(code);
@@ -82,8 +82,8 @@ impl<'a> Network for SealedBook<'a> {
             code,
             head: usize::from(arc.head),
             reverse,
-            residual: arc.residual,
-            back: self.held.arc(reverse).residual,
+            residual: arc.residual(),
+            back: self.held.arc(reverse).residual(),
         }))
     }
 
@@ -98,7 +98,7 @@ impl<'a> Network for SealedBook<'a> {
     #[inline(always)]
     fn arc_residual(&self, arc: usize) -> Result<u64, NetworkRefusal> {
         self.reverse(arc)?;
-        Ok(self.held.arc(arc).residual)
+        Ok(self.held.arc(arc).residual())
     }
 
     #[inline(always)]
@@ -113,12 +113,13 @@ impl<'a> Network for SealedBook<'a> {
     #[inline(always)]
     fn shift(&mut self, arc: usize, amount: u64) -> Result<(), NetworkRefusal> {
         let reverse = self.reverse(arc)?;
-        let left = self.held.arc(arc).residual.checked_sub(amount);
+        let left = self.held.arc(arc).residual().checked_sub(amount);
         let left = left.ok_or(NetworkRefusal::AboveResidual)?;
         let held = &mut self.held;
         let last = held.table.len() - 1;
-        held.table[last - arc].residual = left;
-        held.table[last - reverse].residual += amount;
+        let table = &mut *held.table;
+        table[last - arc].set_residual(left);
+        table[last - reverse].raise_residual(amount);
         Ok(())
     }
 }

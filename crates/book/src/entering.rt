@@ -78,7 +78,7 @@ fn write_need(table: &mut [Record], number: usize, entry: u16, needed: u16)
     requires needed_there { needed < length table.old }
     requires others { entry ≢ needed }
     requires room { 2 * number + 2 ≤ length table.old }
-    requires few { (front table.old entry).needs < 4 }
+    requires few { (front table.old entry).needs_or_first < 4 }
     requires countable { (front table.old entry).arcs < 65535 }
     requires needed_countable { (front table.old needed).arcs < 65535 }
     ensures { table.new ≡ need_written table.old number entry needed }

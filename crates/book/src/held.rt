@@ -13,8 +13,8 @@ pub(crate) struct Held<'a> {
     pub(crate) needs: usize,
     ghost few: { entries ≤ 4096 },
     ghost room: { entries + 2 * needs ≤ length table.now },
-    ghost amounts: { SmallAmounts (columns table.now) entries },
-    ghost heads: { HeadsThere (columns table.now) entries needs },
+    ghost amounts: { SmallAmounts (columns table.now entries needs) entries },
+    ghost heads: { HeadsThere (columns table.now entries needs) entries needs },
 }
 
 impl<'a> Held<'a> {

@@ -1,30 +1,32 @@
 // One record of a book's table, and how it is changed.
-ghost use Rattle.std.specs.Prelude.{◌≡◌, ◌-◌, ◌<◌, ◌≤◌, cond, take, Some, None, nat_le};
-ghost use Rattle.book.specs.Records.{as_entry, as_arc, needing, with_arc_more, amount_of, with_amount};
+ghost use Rattle.std.specs.Prelude.{◌≡◌, ◌+◌, ◌-◌, ◌^◌, ◌<◌, ◌≤◌, cond, take, Some, None, nat_le};
+ghost use Rattle.book.specs.Records.{as_entry, as_arc, needing, with_arc_more, residual_of, with_residual, amount_of, with_amount};
 ghost use Rattle.book.specs.Refusals.{among};
 
 use network::Terminal;
 
-// A record serves an entry or an arc of a need, and its other fields then mean nothing. No enum: once sealed, each record also holds a
-// place of the index.
+// A record serves an entry or an arc of a need, never both, and a field may tell something else of each. No enum: which records serve
+// arcs, their place in the table says.
 #[derive(Clone, Copy, PartialEq, Eq, Debug, Default)]
 pub struct Record {
-    // of an entry: what it earns and what it costs, and once sealed what is left of them as residuals
+    // of an entry: what it earns and what it costs, and once sealed what is left of them as residuals; of an arc: the low 32 bits of its
+    // residual, and the others
     pub earning: u32,
     pub cost: u32,
-    // the entries that it needs, in the order of entering, and how many they are: an `ArrayVec` in place of both could not be copied,
-    // as a record is, and of four `Option`s one could be empty before one that is not
+    // of an entry: the entries that it needs, in the order of entering, and how many they are, or once sealed the place of its first arc
+    // in the index. An `ArrayVec` of needs could not be copied, as a record is, and of four `Option`s one could be empty before one that
+    // is not
     pub needed: [u16; 4],
-    pub needs: u8,
-    // how many arcs leave it, and once sealed the place of the first in the index
+    pub needs_or_first: u16,
+    // and how many arcs leave it
     pub arcs: u16,
-    pub first: u16,
-    // of an arc: the entry that it leads to, and its residual
+    // of an arc: the entry that it leads to, and once sealed the code of the arc that stands at this place of the index
     pub head: u16,
-    pub residual: u64,
-    // the code of the arc that stands at this place of the index, once sealed
     pub code: u16,
 }
+
+// The lowest number of more than 32 bits.
+const HIGH: u64 = 4_294_967_296;
 
 impl Record {
     // Makes it an entry without needs. The amounts stay two numbers: a struct of both would be made in `enter` only to be taken apart here.
@@ -35,28 +37,46 @@ impl Record {
         self.earning = earning;
         self.cost = cost;
         self.needed = [0; 4];
-        self.needs = 0;
+        self.needs_or_first = 0;
         self.arcs = 0;
     }
 
-    // Makes it an arc that leads to an entry.
+    // Makes it an arc that leads to an entry, and an empty place of the index.
     #[inline(always)]
     pub(crate) fn become_arc(&mut self, head: u16, residual: u64)
         ensures { self.new ≡ as_arc self.old head residual }
     {
         self.head = head;
-        self.residual = residual;
+        self.code = 0;
+        self.set_residual(residual);
+    }
+
+    // What can still be sent along an arc.
+    #[inline(always)]
+    pub(crate) fn residual(self) -> u64
+        ensures { result ≡ residual_of self }
+    {
+        u64::from(self.earning) + u64::from(self.cost) * HIGH
+    }
+
+    // Gives an arc another residual.
+    #[inline(always)]
+    pub(crate) fn set_residual(&mut self, residual: u64)
+        ensures { self.new ≡ with_residual self.old residual }
+    {
+        self.earning = (residual % HIGH) as u32;
+        self.cost = (residual / HIGH) as u32;
     }
 
     // Notes one more entry that it needs, and counts the arc to it.
     #[inline(always)]
     pub(crate) fn note_need(&mut self, needed: u16)
-        requires room { self.old.needs < 4 }
+        requires room { self.old.needs_or_first < 4 }
         requires countable { self.old.arcs < 65535 }
         ensures { self.new ≡ needing self.old needed }
     {
-        self.needed[usize::from(self.needs)] = needed;
-        self.needs += 1;
+        self.needed[usize::from(self.needs_or_first)] = needed;
+        self.needs_or_first += 1;
         self.arcs += 1;
     }
 
@@ -69,19 +89,28 @@ impl Record {
         self.arcs += 1;
     }
 
+    // Raises the residual of an arc.
+    #[inline(always)]
+    pub(crate) fn raise_residual(&mut self, amount: u64)
+        requires { residual_of self.old + amount < 2 ^ 64 }
+        ensures { self.new ≡ with_residual self.old (residual_of self.old + amount) }
+    {
+        self.set_residual(self.residual() + amount);
+    }
+
     // The entries that it needs, in the order of entering.
     #[inline(always)]
     pub(crate) fn needed(&self) -> &[u16]
-        requires { self.now.needs ≤ 4 }
-        ensures { result.now ≡ take self.now.needs self.now.needed }
+        requires { self.now.needs_or_first ≤ 4 }
+        ensures { result.now ≡ take self.now.needs_or_first self.now.needed }
     {
-        &self.needed[..usize::from(self.needs)]
+        &self.needed[..usize::from(self.needs_or_first)]
     }
 
     // Whether the entry needs another already.
     pub(crate) fn has_need(&self, needed: u16) -> bool
-        requires { self.now.needs ≤ 4 }
-        ensures { result ≡ among needed (take self.now.needs self.now.needed) }
+        requires { self.now.needs_or_first ≤ 4 }
+        ensures { result ≡ among needed (take self.now.needs_or_first self.now.needed) }
     {
         self.needed().contains(&needed)
     }

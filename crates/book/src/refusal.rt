@@ -93,9 +93,9 @@ impl NeedRefusal {
         unused: usize,
     ) -> Result<(), NeedRefusal>
         requires few { length entries.now ≤ 4096 }
-        requires four { AtMostFour (columns entries.now) (length entries.now) }
-        ensures refusal { result_err result ≡ need_refusal entry needed ((columns entries.now).needed entry) (length entries.now) unused }
-        ensures accepted { OnOk result (Needs entry needed ((columns entries.now).needed entry) (length entries.now) unused) }
+        requires four { AtMostFour (columns entries.now (length entries.now) 0) (length entries.now) }
+        ensures refusal { result_err result ≡ need_refusal entry needed ((columns entries.now (length entries.now) 0).needed entry) (length entries.now) unused }
+        ensures accepted { OnOk result (Needs entry needed ((columns entries.now (length entries.now) 0).needed entry) (length entries.now) unused) }
     {
         if entry >= entries.len() || needed >= entries.len() {
             return Err(NeedRefusal::NoEntry);
@@ -105,7 +105,7 @@ impl NeedRefusal {
             Err(NeedRefusal::Itself)
         } else if record.has_need(needed as u16) {
             Err(NeedRefusal::Repeated)
-        } else if usize::from(record.needs) >= MOST_NEEDS {
+        } else if usize::from(record.needs_or_first) >= MOST_NEEDS {
             Err(NeedRefusal::ManyNeeds)
         } else if unused < 2 {
             Err(NeedRefusal::FewRecords)

@@ -8,7 +8,7 @@ use super::held::Held;
 pub struct SealedBook<'a> {
     pub(crate) held: Held<'a>,
     ghost bound: { held.needs ≤ 16384 },
-    ghost pairs: { SmallPairs (columns held.table.now) held.needs },
-    ghost indexed: { Indexed (columns held.table.now) held.entries held.needs },
-    ghost inside: { IndexInside (columns held.table.now) held.entries held.needs },
+    ghost pairs: { SmallPairs (columns held.table.now held.entries held.needs) held.needs },
+    ghost indexed: { Indexed (columns held.table.now held.entries held.needs) held.entries held.needs },
+    ghost inside: { IndexInside (columns held.table.now held.entries held.needs) held.entries held.needs },
 }

@@ -13,13 +13,10 @@ pub(crate) const UNUSED: Record = Record {
     earning: 91,
     cost: 92,
     needed: [93, 94, 95, 96],
-    needs: 97,
+    needs_or_first: 97,
     arcs: 98,
-    first: 99,
-    head: 100,
-    residual: 101,
-    code: 102,
-    to: 103,
+    head: 99,
+    code: 100,
 };
 
 // What can be sent along a need.

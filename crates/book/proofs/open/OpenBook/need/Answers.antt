@@ -11,6 +11,11 @@ write_need-requires-clause-countable c = let b = c.args.self.now in countable b 
 pub write_need-requires-clause-needed_countable : goal.write_need-requires-clause-needed_countable
 write_need-requires-clause-needed_countable c = let b = c.args.self.now in countable b c.args.needed (omega (arith, c.in_ok-check.ensures.accepted.needed_there, entries_long b c.records.ensures))
 
+pub invariant_of-held : goal.invariant_of-held
+invariant_of-held c =
+    let new = (after_need c.args.self.now c.args.entry c.args.needed c.records.ensures c.unused.ensures.value c.in_ok-check.ensures.accepted c.in_ok-check.ensures.refusal c.write_need.ensures).fine in
+    record { few = new.few; room = new.room; amounts = new.kept.amounts; heads = new.kept.heads }
+
 pub invariant_of-self : goal.invariant_of-self
 invariant_of-self c =
     let new = (after_need c.args.self.now c.args.entry c.args.needed c.records.ensures c.unused.ensures.value c.in_ok-check.ensures.accepted c.in_ok-check.ensures.refusal c.write_need.ensures).fine.kept in
