@@ -31,7 +31,7 @@ told_set w pixels i x there told small same =
 pub value_terminal : (w : ℕ) (pixels : List Pixel) (t : Terminal) (u x : ℕ) → u < length pixels → of_pixels w (set pixels u (put_terminal (pixel_at pixels u) t x)) ≡ with_terminal (of_pixels w pixels) t u x
 value_terminal w pixels t u x there = search rules
 
-number_small : (d : Direction) → number d < 4
+pub number_small : (d : Direction) → number d < 4
 number_small Right = omega arith
 number_small Left = omega arith
 number_small Below = omega arith

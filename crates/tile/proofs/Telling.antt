@@ -1,9 +1,9 @@
 -- What a pixel's record tells of its arcs.
-use Rattle.std.proofs.Common.{◌≡◌, ℕ, ◌<◌, ◌≤◌, true, false, List, length, take, filter, None, Some, Option, sym, refl, ap, ◌∙◌, ⊎_elim}
+use Rattle.std.proofs.Common.{◌≡◌, ℕ, zero, suc, ◌+◌, ◌*◌, ◌<◌, ◌≤◌, true, false, List, length, take, filter, None, Some, Option, sym, refl, ap, ◌∙◌, ⊎_elim, arith}
 use Rattle.std.proofs.lemmas.Bool.{cases_Bool}
 use Rattle.std.proofs.lemmas.List.{get_or-take}
 use Rattle.std.proofs.lemmas.Option.{slice_get-map}
-use Rattle.std.specs.Prelude.{option_map, Ok, Err, nat_lt}
+use Rattle.std.specs.Prelude.{option_map, Ok, Err, nat_lt, slice_index, bit_xor}
 use Rattle.std.specs.List.{slice_get}
 use Rattle.network.specs.declared.arc.Arc.{Arc}
 use Rattle.network.specs.declared.refusal.NetworkRefusal.TheVariants.{NoNode}
@@ -11,7 +11,7 @@ use Rattle.network.specs.Answers.{at_node, arc_with, whole, arc_answer}
 use Rattle.tile.specs.declared.direction.Direction.{Direction}
 use Rattle.tile.specs.declared.direction.Direction.TheVariants.{Right, Left, Below, Above}
 use Rattle.tile.specs.declared.pixel.Pixel.{Pixel}
-use Rattle.tile.specs.Grids.{directions, opposite, neighbour, joined, arc_of, directions_of, joins, arcs_of}
+use Rattle.tile.specs.Grids.{directions, number, opposite, neighbour, joined, arc_of, direction_of, directions_of, joins, arcs_of}
 use Rattle.tile.specs.Laws.{owner_of_arc, direction_of_arc, both_joined, at_place, arc_there}
 use Rattle.tile.specs.Pixels.{has, residual_of}
 use Rattle.tile.specs.Tables.{no_pixel, pixel_at, of_pixels, Told}
@@ -63,3 +63,19 @@ arc_read w table n d v room there =
     let both = both_joined w n d v there in
     let u = neighbour w d v in
     rw (owner_of_arc d v, direction_of_arc d v, owner_of_arc (opposite d) u, direction_of_arc (opposite d) u, get_or-take n table v no_pixel both.pixel, get_or-take n table u no_pixel both.other) refl
+
+-- the number of the direction back
+pub backwards : (k : ℕ) → k < 4 → bit_xor k 1 ≡ number (opposite (direction_of k))
+backwards zero small = refl
+backwards (suc zero) small = refl
+backwards (suc (suc zero)) small = refl
+backwards (suc (suc (suc zero))) small = refl
+backwards (suc (suc (suc (suc k)))) small = absurd (omega arith)
+
+-- the same by the number of a direction
+pub arc_numbered : (w : ℕ) (table : List Pixel) (n k v : ℕ) → n ≤ length table → k < 4 → joined w n (direction_of k) v ≡ true → arc_with (of_pixels w (take n table)) (4 * v + k) (joins w (direction_of k) v) ≡ (let u = neighbour w (direction_of k) v in record { code = 4 * v + k; head = u; reverse = 4 * u + bit_xor k 1; residual = slice_index (pixel_at table v).residuals k; back = slice_index (pixel_at table u).residuals (bit_xor k 1) })
+arc_numbered w table n zero v room small there = arc_read w table n Right v room there
+arc_numbered w table n (suc zero) v room small there = arc_read w table n Left v room there
+arc_numbered w table n (suc (suc zero)) v room small there = arc_read w table n Below v room there
+arc_numbered w table n (suc (suc (suc zero))) v room small there = arc_read w table n Above v room there
+arc_numbered w table n (suc (suc (suc (suc k)))) v room small there = absurd (omega arith)

@@ -1,6 +1,6 @@
 -- The graph of a tile: pixels numbered row by row, each joined to its neighbours. Pixel v has an arc in each direction in which there is a
 -- neighbour, of the code 4v and the direction's number.
-use Rattle.std.specs.Prelude.{◌≡◌, ℕ, ◌+◌, ◌-◌, ◌*◌, ◌/◌, ◌%◌, Bool, cond, ◌&&◌, List, [], ◌∷◌, map, filter, Some, None, ◌==◌, nat_le, nat_lt}
+use Rattle.std.specs.Prelude.{◌≡◌, ℕ, ◌+◌, ◌-◌, ◌*◌, ◌/◌, ◌%◌, ◌^◌, Bool, cond, ◌&&◌, List, [], ◌∷◌, map, filter, Some, None, ◌==◌, nat_le, nat_lt}
 use Rattle.network.specs.Nets.{Ends, Graph}
 use Rattle.tile.specs.declared.direction.Direction.{Direction}
 use Rattle.tile.specs.declared.direction.Direction.TheVariants.{Right, Left, Below, Above}
@@ -27,6 +27,10 @@ neighbour w Right v = v + 1
 neighbour w Left v = v - 1
 neighbour w Below v = v + w
 neighbour w Above v = v - w
+
+-- how far it lies from a pixel, by the numbers of the directions, in sums that wrap at 2^64
+abbrev pub steps_of : ℕ → List ℕ
+steps_of w = 1 ∷ (2 ^ 64 - 1) ∷ w ∷ (2 ^ 64 - w) % 2 ^ 64 ∷ []
 
 -- the way back from the neighbour leads to the pixel; not so where a number would be below 0
 abbrev pub LeadsBack : ℕ → Direction → ℕ → Type 0

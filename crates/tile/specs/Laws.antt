@@ -10,7 +10,7 @@ use Rattle.network.specs.Nets.{Ends, LawfulGraph, Lawful, reversed}
 use Rattle.tile.specs.declared.direction.Direction.{Direction}
 use Rattle.tile.specs.declared.direction.Direction.TheVariants.{Right, Left, Below, Above}
 use Rattle.tile.specs.declared.pixel.Pixel.{Pixel}
-use Rattle.tile.specs.Grids.{directions, opposite, neighbour, LeadsBack, joined, arc_of, owner, direction_of, joins, arcs_of, grid}
+use Rattle.tile.specs.Grids.{directions, number, opposite, neighbour, LeadsBack, joined, arc_of, owner, direction_of, joins, arcs_of, grid}
 use Rattle.tile.specs.Tables.{of_pixels, Told, SmallPairs}
 
 -- a code tells a pixel and a direction, and these tell the code
@@ -25,6 +25,15 @@ direction_of_arc Right v = grind (arith, nat_tests)
 direction_of_arc Left v = grind (arith, nat_tests)
 direction_of_arc Below v = grind (arith, nat_tests)
 direction_of_arc Above v = grind (arith, nat_tests)
+
+pub number_again : (n : ℕ) → n < 4 → number (direction_of n) ≡ n
+number_again n small = grind (arith, nat_tests)
+
+pub direction_again : (d : Direction) → direction_of (number d) ≡ d
+direction_again Right = refl
+direction_again Left = refl
+direction_again Below = refl
+direction_again Above = refl
 
 pub arc_again : (a : ℕ) → arc_of (direction_of a) (owner a) ≡ a
 arc_again a = grind (arith, nat_tests)

@@ -1,8 +1,8 @@
 // What a tile answers as a network.
-ghost use Rattle.std.specs.Prelude.{◌≡◌, ◌<◌, Ok, true, length, slice_index};
+ghost use Rattle.std.specs.Prelude.{◌≡◌, ◌+◌, ◌*◌, ◌%◌, ◌^◌, ◌<◌, Ok, true, length, slice_index};
 ghost use Rattle.std.specs.List.{slice_get};
 ghost use Rattle.network.specs.Answers.{arc_with, at_arc, at_node};
-ghost use Rattle.tile.specs.Grids.{owner, direction_of, directions_of, joined, joins, arc_of};
+ghost use Rattle.tile.specs.Grids.{owner, direction_of, directions_of, neighbour, LeadsBack, joined, joins};
 ghost use Rattle.tile.specs.Tables.{pixel_at};
 ghost use Rattle.tile.specs.Values.{pixels_of, tile_value, tile_lawful, tile_keeps, tile_keeping};
 
@@ -30,20 +30,31 @@ impl<'a> Tile<'a> {
         Ok(pixel.neighbours.at(place))
     }
 
-    // The tail of an arc and the direction in which it leads.
+    // The tail of an arc and the number of the direction in which it leads.
     #[inline(always)]
-    fn origin(&self, arc: usize) -> Result<(usize, Direction), NetworkRefusal>
-        ensures { result ≡ at_arc (λ _. Ok (owner arc, direction_of arc)) ((tile_value self.now).graph.ends arc) }
+    fn origin(&self, arc: usize) -> Result<(usize, usize), NetworkRefusal>
+        ensures { result ≡ at_arc (λ _. Ok (owner arc, arc % 4)) ((tile_value self.now).graph.ends arc) }
     {
-        let (tail, direction) = (arc / 4, Direction::of(arc));
+        let (tail, number) = (arc / 4, arc % 4);
         let Ok(pixel) = self.pixel(tail) else {
             return Err(NetworkRefusal::NoArc);
         };
-        if pixel.neighbours.has(direction) {
-            Ok((tail, direction))
+        if pixel.neighbours.has_number(number) {
+            Ok((tail, number))
         } else {
             Err(NetworkRefusal::NoArc)
         }
+    }
+
+    // The neighbour of a pixel in the direction of a number.
+    #[inline(always)]
+    fn neighbour(&self, pixel: usize, number: usize) -> usize
+        requires few { pixel < 2 ^ 62 }
+        requires small { number < 4 }
+        requires there { LeadsBack self.now.width (direction_of number) pixel }
+        ensures { result ≡ neighbour self.now.width (direction_of number) pixel }
+    {
+        pixel.wrapping_add(self.steps[number])
     }
 
     // What can still be sent from a pixel in the direction of a number.
@@ -57,18 +68,19 @@ impl<'a> Tile<'a> {
         table[pixel].residuals[number]
     }
 
-    // The arc of a node to its neighbour in a direction.
+    // The arc of a node to its neighbour in the direction of a number. The last bit of a number tells forth from back.
     #[inline(always)]
-    fn arc(&self, node: usize, direction: Direction) -> Arc
-        requires { joined self.now.width (length (pixels_of self.now)) direction node ≡ true }
-        ensures { result ≡ arc_with (tile_value self.now) (arc_of direction node) (joins self.now.width direction node) }
+    fn arc(&self, node: usize, number: usize) -> Arc
+        requires small { number < 4 }
+        requires there { joined self.now.width (length (pixels_of self.now)) (direction_of number) node ≡ true }
+        ensures { result ≡ arc_with (tile_value self.now) (4 * node + number) (joins self.now.width (direction_of number) node) }
     {
-        let (head, back) = (direction.neighbour(self.width, node), direction.back());
+        let (head, back) = (self.neighbour(node, number), number ^ 1);
         Arc {
-            code: direction.arc(node),
+            code: 4 * node + number,
             head,
             reverse: 4 * head + back,
-            residual: u64::from(self.residual(node, direction.number())),
+            residual: u64::from(self.residual(node, number)),
             back: u64::from(self.residual(head, back)),
         }
     }
@@ -99,13 +111,13 @@ impl<'a> Network for Tile<'a> {
         let Some(direction) = self.direction_at(node, place)? else {
             return Ok(None);
         };
-        Ok(Some(direction.arc(node)))
+        Ok(Some(4 * node + direction.number()))
     }
 
     #[inline(always)]
     fn arc_ends(&self, arc: usize) -> Result<(usize, usize, usize), NetworkRefusal> {
-        let (tail, direction) = self.origin(arc)?;
-        let Arc { head, reverse, .. } = self.arc(tail, direction);
+        let (tail, number) = self.origin(arc)?;
+        let Arc { head, reverse, .. } = self.arc(tail, number);
         Ok((tail, head, reverse))
     }
 
@@ -114,13 +126,13 @@ impl<'a> Network for Tile<'a> {
         let Some(direction) = self.direction_at(node, place)? else {
             return Ok(None);
         };
-        Ok(Some(self.arc(node, direction)))
+        Ok(Some(self.arc(node, direction.number())))
     }
 
     #[inline(always)]
     fn arc_residual(&self, arc: usize) -> Result<u64, NetworkRefusal> {
-        let (tail, direction) = self.origin(arc)?;
-        Ok(u64::from(self.residual(tail, direction.number())))
+        let (tail, number) = self.origin(arc)?;
+        Ok(u64::from(self.residual(tail, number)))
     }
 
     #[inline(always)]
@@ -135,11 +147,10 @@ impl<'a> Network for Tile<'a> {
 
     #[inline(always)]
     fn shift(&mut self, arc: usize, amount: u64) -> Result<(), NetworkRefusal> {
-        let (tail, direction) = self.origin(arc)?;
-        let (number, back) = (direction.number(), direction.back());
+        let (tail, number) = self.origin(arc)?;
         let left = u64::from(self.residual(tail, number)).checked_sub(amount);
         let left = left.ok_or(NetworkRefusal::AboveResidual)?;
-        let head = direction.neighbour(self.width, tail);
+        let (head, back) = (self.neighbour(tail, number), number ^ 1);
         let more = u64::from(self.residual(head, back)) + amount;
         let table = &mut *self.table;
         table[tail].set_residual(number, left as u16);

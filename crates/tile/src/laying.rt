@@ -5,6 +5,7 @@ ghost use Rattle.tile.specs.Values.{tile_of};
 ghost use Rattle.tile.specs.Layings.{AllLaid};
 
 use super::costs::read_pixel;
+use super::direction::steps;
 use super::neighbours::{Neighbours, column_after};
 use super::pixel::Pixel;
 use super::refusal::LayRefusal;
@@ -19,6 +20,7 @@ impl<'a> Tile<'a> {
             table,
             width: 0,
             height: 0,
+            steps: steps(0),
         }
     }
 
@@ -31,6 +33,7 @@ impl<'a> Tile<'a> {
         write_pixels(&mut self.table[..width * height], width, costs);
         self.width = width;
         self.height = height;
+        self.steps = steps(width);
         Ok(())
     }
 

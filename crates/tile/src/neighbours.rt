@@ -2,7 +2,7 @@
 ghost use Rattle.std.specs.Prelude.{◌≡◌, ◌+◌, ◌%◌, ◌<◌, ◌≤◌, cond, filter, nat_lt};
 ghost use Rattle.std.specs.List.{slice_get};
 ghost use Rattle.tile.specs.declared.direction.Direction.TheVariants.{Right};
-ghost use Rattle.tile.specs.Grids.{directions, joined};
+ghost use Rattle.tile.specs.Grids.{direction_of, directions, joined};
 ghost use Rattle.tile.specs.Tables.{Known};
 ghost use Rattle.tile.specs.Pixels.{has};
 
@@ -77,7 +77,16 @@ impl Neighbours {
     pub(crate) fn has(self, direction: Direction) -> bool
         ensures { result ≡ has self direction }
     {
-        (self.bits >> direction.number()) % 2 == 1
+        self.has_number(direction.number())
+    }
+
+    // The same by the number of a direction.
+    #[inline(always)]
+    pub(crate) fn has_number(self, number: usize) -> bool
+        requires { number < 4 }
+        ensures { result ≡ has self (direction_of number) }
+    {
+        (self.bits >> number) % 2 == 1
     }
 
     // The direction at a place of those that are there.

@@ -1,4 +1,4 @@
-use Rattle.std.proofs.Common.{◌≡◌, ◌+◌, ◌-◌, ◌*◌, ◌≤◌, true, Err, refl, take, set, sym, subst, ◌∙◌, arith, length-set}
+use Rattle.std.proofs.Common.{◌≡◌, ℕ, ◌%◌, bit_xor, ◌+◌, ◌-◌, ◌*◌, ◌≤◌, true, Err, refl, take, set, sym, subst, ◌∙◌, arith, length-set}
 use Rattle.std.proofs.lemmas.Bool.{le-leb}
 use Rattle.std.proofs.lemmas.Bool.Decides.{nat_tests}
 use Rattle.std.proofs.lemmas.List.{length-take-le, drop-set-lt}
@@ -9,8 +9,13 @@ use Rattle.tile.specs.Pixels.{residual_of, put_residual}
 use Rattle.tile.specs.Tables.{pixel_at, of_pixels, SmallPairs}
 use Rattle.tile.specs.Laws.{both_joined}
 use Rattle.tile.specs.Values.{tile_lawful}
-use Rattle.tile.proofs.Changes.{table_answer, table_pair, table_shifted, pairs_shifted}
+use Rattle.tile.proofs.Telling.{backwards}
+use Rattle.tile.proofs.Changes.{number_small, table_answer, table_pair, table_shifted, pairs_shifted}
 use Rattle.tile.proofs.answering.TileNetwork.shift.Goals as goal
+
+-- the number that an arc tells, and the direction of this number
+towards : (a n : ℕ) → n ≡ a % 4 → (n ≡ number (direction_of a)) × (direction_of n ≡ direction_of a)
+towards a n is = grind (arith, nat_tests)
 
 pub returns-in_err-left-clause-after : goal.returns-in_err-left-clause-after
 returns-in_err-left-clause-after c =
@@ -32,8 +37,7 @@ overflow_cast-more c =
     let there : joined x.width n (direction_of a) (owner a) ≡ true = grind (arith, nat_tests) in
     let pair = table_pair x.width x.table.now n a x.room there x.pairs in
     let at : c.in_ok-tail.tail ≡ owner a = grind (arith, nat_tests) in
-    let way : c.in_ok-tail.direction ≡ direction_of a = grind (arith, nat_tests) in
-    let forth : c.number-number.result ≡ number (direction_of a) = rw (← way) c.number-number.ensures in
+    let (forth, way) = towards a c.in_ok-tail.number (grind (arith, nat_tests)) in
     let less : c.args.amount ≤ residual_of (pixel_at x.table.now (owner a)) (direction_of a) = rw (← at, ← forth) (grind (arith, nat_tests)) in
     let back : c.residual-2.result ≡ residual_of (pixel_at x.table.now (neighbour x.width (direction_of a) (owner a))) (opposite (direction_of a)) = rw (← at, ← way) (grind arith) in
     omega (arith, pair, less, back, c.from-2.ensures)
@@ -50,10 +54,9 @@ invariant_of-self c =
     let long = length-take-le n table x.room in
     let there : joined x.width n d v ≡ true = grind (arith, nat_tests) in
     let at : c.in_ok-tail.tail ≡ v = grind (arith, nat_tests) in
-    let way : c.in_ok-tail.direction ≡ d = grind (arith, nat_tests) in
+    let (forth, way) = towards a c.in_ok-tail.number (grind (arith, nat_tests)) in
     let head : c.neighbour-head.result ≡ u = rw (← at, ← way) c.neighbour-head.ensures in
-    let forth : c.number-number.result ≡ number d = rw (← way) c.number-number.ensures in
-    let back : c.back-back.result ≡ number (opposite d) = rw (← way) c.back-back.ensures in
+    let back : bit_xor c.in_ok-tail.number 1 ≡ number (opposite d) = rw (← way) (backwards c.in_ok-tail.number (omega (arith, forth, number_small d))) in
     let less : c.args.amount ≤ residual_of (pixel_at table v) d = rw (← at, ← forth) (grind (arith, nat_tests)) in
     let lower : c.in_ok-left.left ≡ residual_of (pixel_at table v) d - c.args.amount = rw (← at, ← forth) (grind (arith, nat_tests)) in
     let raise : c.from-2.result + c.args.amount ≡ residual_of (pixel_at table u) (opposite d) + c.args.amount = rw (← head, ← back) (omega (arith, c.from-2.ensures, c.residual-2.ensures)) in
@@ -64,6 +67,7 @@ invariant_of-self c =
     record {
       narrow = x.narrow;
       low = x.low;
+      stepped = x.stepped;
       room = omega (arith, x.room, length-set table c.in_ok-tail.tail c.set_residual.new.self, length-set (set table c.in_ok-tail.tail c.set_residual.new.self) c.neighbour-head.result c.set_residual-2.new.self);
       told = rw (at, head) told;
       pairs = rw (at, head) pairs;
@@ -90,10 +94,9 @@ returns-clause-after c =
     let long = length-take-le n table x.room in
     let there : joined x.width n d v ≡ true = grind (arith, nat_tests) in
     let at : c.in_ok-tail.tail ≡ v = grind (arith, nat_tests) in
-    let way : c.in_ok-tail.direction ≡ d = grind (arith, nat_tests) in
+    let (forth, way) = towards a c.in_ok-tail.number (grind (arith, nat_tests)) in
     let head : c.neighbour-head.result ≡ u = rw (← at, ← way) c.neighbour-head.ensures in
-    let forth : c.number-number.result ≡ number d = rw (← way) c.number-number.ensures in
-    let back : c.back-back.result ≡ number (opposite d) = rw (← way) c.back-back.ensures in
+    let back : bit_xor c.in_ok-tail.number 1 ≡ number (opposite d) = rw (← way) (backwards c.in_ok-tail.number (omega (arith, forth, number_small d))) in
     let less : c.args.amount ≤ residual_of (pixel_at table v) d = rw (← at, ← forth) (grind (arith, nat_tests)) in
     let lower : c.in_ok-left.left ≡ residual_of (pixel_at table v) d - c.args.amount = rw (← at, ← forth) (grind (arith, nat_tests)) in
     let raise : c.from-2.result + c.args.amount ≡ residual_of (pixel_at table u) (opposite d) + c.args.amount = rw (← head, ← back) (omega (arith, c.from-2.ensures, c.residual-2.ensures)) in
@@ -113,7 +116,7 @@ returns-clause-kept c =
     let there : joined x.width n (direction_of c.args.arc) (owner c.args.arc) ≡ true = grind (arith, nat_tests) in
     let both = both_joined x.width n (direction_of c.args.arc) (owner c.args.arc) there in
     let at : c.in_ok-tail.tail ≡ owner c.args.arc = grind (arith, nat_tests) in
-    let way : c.in_ok-tail.direction ≡ direction_of c.args.arc = grind (arith, nat_tests) in
+    let (_, way) = towards c.args.arc c.in_ok-tail.number (grind (arith, nat_tests)) in
     let head : c.neighbour-head.result ≡ neighbour x.width (direction_of c.args.arc) (owner c.args.arc) = rw (← at, ← way) c.neighbour-head.ensures in
     record {
       width = refl;

@@ -21,6 +21,7 @@ invariant_of-self c =
     record {
       narrow = ok.narrow;
       low = ok.low;
+      stepped = c.steps-self.ensures;
       room = omega (arith, as_long, length-append new (drop n old));
       told = subst (Told w) (sym front) (told_laid w n c.args.costs.now new as_long written);
       pairs = subst (λ pixels. SmallPairs (of_pixels w pixels)) (sym front) (pairs_laid w n c.args.costs.now new as_long written);
