@@ -1,15 +1,15 @@
 -- Entering an entry: what passes the questions, and what the table holds then.
-use Rattle.std.proofs.Common.{◌≡◌, ℕ, ◌+◌, ◌-◌, ◌*◌, ◌<◌, ◌≤◌, List, map, length, get_or, set, None, Ok, sym, refl, ap, ◌∙◌, subst, ⊎_elim, arith, length-set}
+use Rattle.std.proofs.Common.{◌≡◌, ℕ, ◌+◌, ◌-◌, ◌*◌, ◌<◌, ◌≤◌, List, map, length, set, None, Ok, sym, refl, ap, ◌∙◌, subst, ⊎_elim, arith, length-set}
 use Rattle.std.specs.Borrow.{MutBor}
 use Rattle.std.specs.List.{range_with_len}
-use Rattle.std.proofs.lemmas.List.{get_or_default, nil_from_length}
+use Rattle.std.proofs.lemmas.List.{nil_from_length}
 use Rattle.std.proofs.lemmas.List.FromFn.{length-map-range_with_len, map-range_with_len_more}
 use Rattle.std.proofs.lemmas.Bool.{cases_lt, eq-eqb, ne_eqb}
 use Rattle.book.specs.declared.open.OpenBook.{OpenBook}
 use Rattle.book.specs.declared.record.Record.{Record}
 use Rattle.book.specs.Books.{empty, no_amounts, with_entry}
 use Rattle.book.specs.Records.{as_entry}
-use Rattle.book.specs.Tables.{Columns, columns, no_record, front, amounts_in, need_in, book_in}
+use Rattle.book.specs.Tables.{Columns, columns, amounts_in, need_in, book_in}
 use Rattle.book.proofs.Changes.{with_entry_at}
 use Rattle.book.specs.Refusals.{enter_refusal}
 use Rattle.book.specs.Accepted.{Enters}
@@ -62,14 +62,14 @@ no_entries b none =
 
 -- the table with one entry more
 abbrev pub entry_written : List Record → ℕ → ℕ → ℕ → List Record
-entry_written table n x y = set table n (as_entry (front table n) x y)
+entry_written table n x y = set table n (as_entry x y)
 
 fine_entry : (table : List Record) (n m x y spare : ℕ) → Fine table n m → Enters x y n spare → spare ≡ length table - n - 2 * m → Fine (entry_written table n x y) (n + 1) m
 fine_entry table n m x y spare f e is =
     let inside : n + 2 * m < length table = omega (arith, e.room) in
     record {
       few = omega (arith, e.few);
-      room = omega (arith, e.room, length-set table n (as_entry (front table n) x y));
+      room = omega (arith, e.room, length-set table n (as_entry x y));
       kept = subst (λ (c : Columns). Kept c (n + 1) m) (sym (columns_entry table n m x y inside)) (kept_entry (columns table n m) n m x y f.kept e.small_earning e.small_cost);
     }
 
@@ -104,13 +104,13 @@ after_written lent n m x y spare f e is none =
     }
 
 -- so it is after r was written, which is made of the record that was there, where the counts are those of the book that stands
-pub after_entry : (b : OpenBook) (x y : ℕ) {count spare : ℕ} {r : Record} (d : Record) → count ≡ length (open_of b).book.entries → spare ≡ unused (open_of b) → Enters x y count spare → None ≡ enter_refusal x y count spare → r ≡ as_entry (get_or b.held.table.now b.held.entries d) x y → After b.held.table b.held.entries b.held.needs x y (set b.held.table.now b.held.entries r)
-after_entry b x y {count} {spare} {r} d is left e none made =
+pub after_entry : (b : OpenBook) (x y : ℕ) {count spare : ℕ} {r : Record} → count ≡ length (open_of b).book.entries → spare ≡ unused (open_of b) → Enters x y count spare → None ≡ enter_refusal x y count spare → r ≡ as_entry x y → After b.held.table b.held.entries b.held.needs x y (set b.held.table.now b.held.entries r)
+after_entry b x y {count} {spare} {r} is left e none made =
     let table = b.held.table.now in
     let n = b.held.entries in
     let m = b.held.needs in
     let unused_here = unused_count b.held.table n m in
     let inside : n < length table = omega (arith, e.room, unused_here) in
-    let same : set table n r ≡ entry_written table n x y = ap (set table n) (made ∙ ap (λ (old : Record). as_entry old x y) (get_or_default table n d no_record inside)) in
+    let same : set table n r ≡ entry_written table n x y = ap (set table n) made in
     let here : Enters x y n spare = subst (λ k. Enters x y k spare) (is ∙ entry_count table n m) e in
     subst (After b.held.table n m x y) (sym same) (after_written b.held.table n m x y spare (fine b) here (left ∙ unused_here) (cc))

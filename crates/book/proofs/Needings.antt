@@ -72,12 +72,12 @@ need_asked b u w {spare} {entries} is left =
 -- What the counts may be.
 
 -- the needs of at most 4,096 entries are at most 16,384, so a record has room to count its arcs
-pub countable : (b : OpenBook) (v : ℕ) → v < b.held.entries → (front b.held.table.now v).arcs < 65535
+pub countable : (b : OpenBook) (v : ℕ) → v < b.held.entries → (front b.held.table.now v).arcs_or_head < 65535
 countable b v there =
     let c = columns b.held.table.now b.held.entries b.held.needs in
     let needs = sum_at_most b.held.entries 4 (λ u. length (c.needed u)) (λ u below. (b.four u below).0) in
     let most = kept_at_most (λ a. eqb (c.head (mate a)) v) (2 * b.held.needs) in
-    let here = ap (λ (r : Record). r.arcs) (entry_there b.held.table.now b.held.entries v there) in
+    let here = ap (λ (r : Record). r.arcs_or_head) (entry_there b.held.table.now b.held.entries v there) in
     omega (arith, b.counted, b.held.few, b.arcs v there, most, here)
 
 -- What is written.
@@ -90,7 +90,7 @@ written_length table m u w =
     let along = arc_written counted (2 * m) w binding in
     length-set along _ _ ∙ (length-set counted _ _ ∙ (length-set noted _ _ ∙ length-set table _ _))
 
-columns_need : (table : List Record) (n m u w : ℕ) → u < n → w < n → n + 2 * m + 2 ≤ length table → (front table u).needs_or_first < length (front table u).needed → columns (need_written table m u w) n (m + 1) ≡ with_need_at (columns table n m) m u w
+columns_need : (table : List Record) (n m u w : ℕ) → u < n → w < n → n + 2 * m + 2 ≤ length table → (front table u).needs_or_index < length (front table u).needed → columns (need_written table m u w) n (m + 1) ≡ with_need_at (columns table n m) m u w
 columns_need table n m u w there needed_there room few =
     let noted = need_noted table u w in
     let counted = arc_counted noted w in
@@ -120,7 +120,7 @@ after_written lent n m u w spare f e is none =
     let table = lent.now in
     let four = f.kept.four u e.there in
     let here = entry_there table n u e.there in
-    let told = columns_need table n m u w e.there e.needed_there (omega (arith, f.room, e.room)) (omega (arith, e.few, four, ap (λ (r : Record). r.needs_or_first) here, ap (λ (r : Record). length r.needed) here)) in
+    let told = columns_need table n m u w e.there e.needed_there (omega (arith, f.room, e.room)) (omega (arith, e.few, four, ap (λ (r : Record). r.needs_or_index) here, ap (λ (r : Record). length r.needed) here)) in
     record {
       fine = record {
         few = f.few;

@@ -46,31 +46,31 @@ placed_past c n m u k indexed there past =
     ap (λ (xs : List ℕ). slice_get xs k) (sym (indexed u there)) ∙ slice_get_past codes k (omega arith)
 
 -- past the number of arcs that an entry's record has there is none
-pub no_place : (b : SealedBook) (u k : ℕ) → u < b.held.entries → (front (sealed_table b) u).arcs ≤ k → slice_get (arcs_of (sealed_columns b) b.held.needs u) k ≡ None
-no_place b u k there past = placed_past (sealed_columns b) b.held.entries b.held.needs u k b.indexed there (omega (arith, past, ap (λ (r : Record). r.arcs) (entry_there (sealed_table b) b.held.entries u there)))
+pub no_place : (b : SealedBook) (u k : ℕ) → u < b.held.entries → (front (sealed_table b) u).arcs_or_head ≤ k → slice_get (arcs_of (sealed_columns b) b.held.needs u) k ≡ None
+no_place b u k there past = placed_past (sealed_columns b) b.held.entries b.held.needs u k b.indexed there (omega (arith, past, ap (λ (r : Record). r.arcs_or_head) (entry_there (sealed_table b) b.held.entries u there)))
 
 -- its code, as the record of the place tells it
-pub code_placed : (b : SealedBook) (u k : ℕ) → u < b.held.entries → k < (front (sealed_table b) u).arcs → let a = (back (sealed_table b) ((front (sealed_table b) u).needs_or_first + k)).code in (slice_get (arcs_of (sealed_columns b) b.held.needs u) k ≡ Some a) × (a < 2 * b.held.needs)
+pub code_placed : (b : SealedBook) (u k : ℕ) → u < b.held.entries → k < (front (sealed_table b) u).arcs_or_head → let a = (back (sealed_table b) ((front (sealed_table b) u).needs_or_index + k)).needs_or_index in (slice_get (arcs_of (sealed_columns b) b.held.needs u) k ≡ Some a) × (a < 2 * b.held.needs)
 code_placed b u k there inside =
     let table = sealed_table b in
     let n = b.held.entries in
     let m = b.held.needs in
     let c = sealed_columns b in
     let entry = entry_there table n u there in
-    let arcs = ap (λ (r : Record). r.arcs) entry in
-    let first = ap (λ (r : Record). r.needs_or_first) entry in
-    let p = (front table u).needs_or_first + k in
+    let arcs = ap (λ (r : Record). r.arcs_or_head) entry in
+    let first = ap (λ (r : Record). r.needs_or_index) entry in
+    let p = (front table u).needs_or_index + k in
     let place = arc_there table m p (omega (arith, b.inside u there, arcs, first)) in
-    let is : slice_get (arcs_of c m u) k ≡ Some (back table p).code = placed c n m u k b.indexed there (omega (arith, arcs)) ∙ ap (λ x. Some (c.code (x + k))) first ∙ ap (λ (r : Record). Some r.code) place in
-    let own = (sealed_lawful b).graph.own u k (back table p).code there is in
+    let is : slice_get (arcs_of c m u) k ≡ Some (back table p).needs_or_index = placed c n m u k b.indexed there (omega (arith, arcs)) ∙ ap (λ x. Some (c.code (x + k))) first ∙ ap (λ (r : Record). Some r.needs_or_index) place in
+    let own = (sealed_lawful b).graph.own u k (back table p).needs_or_index there is in
     (is, grind (arith, nat_tests, own.1))
 
 -- and its record and its reverse's tell the arc whole
-pub whole_placed : (b : SealedBook) (u k : ℕ) → u < b.held.entries → k < (front (sealed_table b) u).arcs → let table = sealed_table b in let a = (back table ((front table u).needs_or_first + k)).code in arc_answer (sealed_value b) u k ≡ Ok (Some (record { code = a; head = (back table a).head; reverse = mate a; residual = residual_of (back table a); back = residual_of (back table (mate a)) }))
+pub whole_placed : (b : SealedBook) (u k : ℕ) → u < b.held.entries → k < (front (sealed_table b) u).arcs_or_head → let table = sealed_table b in let a = (back table ((front table u).needs_or_index + k)).needs_or_index in arc_answer (sealed_value b) u k ≡ Ok (Some (record { code = a; head = (back table a).arcs_or_head; reverse = mate a; residual = residual_of (back table a); back = residual_of (back table (mate a)) }))
 whole_placed b u k there inside =
     let table = sealed_table b in
     let m = b.held.needs in
-    let a = (back table ((front table u).needs_or_first + k)).code in
+    let a = (back table ((front table u).needs_or_index + k)).needs_or_index in
     let is = code_placed b u k there inside in
     rw (lt-ltb u b.held.entries there, is.0, arc_with, lt-ltb a (2 * m) is.1, lt-ltb (mate a) (2 * m) (mate_below a m is.1)) refl
 

@@ -73,9 +73,9 @@ put_entry c u r = record c {
   earning = at c.earning u r.earning;
   cost = at c.cost u r.cost;
   needed = at c.needed u (needed_of r);
-  needs_or_first = at c.needs_or_first u r.needs_or_first;
+  needs_or_first = at c.needs_or_first u r.needs_or_index;
   space = at c.space u (length r.needed);
-  arcs = at c.arcs u r.arcs;
+  arcs = at c.arcs u r.arcs_or_head;
 }
 
 told_entry : (entry arc : ℕ → Record) (u : ℕ) (r : Record) → told (at entry u r) arc ≡ put_entry (told entry arc) u r
@@ -83,20 +83,20 @@ told_entry entry arc u r = λ i. record (told entry arc) {
   earning = λ k. at_read (λ (r : Record). r.earning) entry u r k i;
   cost = λ k. at_read (λ (r : Record). r.cost) entry u r k i;
   needed = λ k. at_read needed_of entry u r k i;
-  needs_or_first = λ k. at_read (λ (r : Record). r.needs_or_first) entry u r k i;
+  needs_or_first = λ k. at_read (λ (r : Record). r.needs_or_index) entry u r k i;
   space = λ k. at_read (λ (r : Record). length r.needed) entry u r k i;
-  arcs = λ k. at_read (λ (r : Record). r.arcs) entry u r k i;
+  arcs = λ k. at_read (λ (r : Record). r.arcs_or_head) entry u r k i;
 }
 
 -- arc a, and place a of the index, are told by the record r
 abbrev put_arc : Columns → ℕ → Record → Columns
-put_arc c a r = record c { head = at c.head a r.head; residual = at c.residual a (residual_of r); code = at c.code a r.code }
+put_arc c a r = record c { head = at c.head a r.arcs_or_head; residual = at c.residual a (residual_of r); code = at c.code a r.needs_or_index }
 
 told_arc : (entry arc : ℕ → Record) (a : ℕ) (r : Record) → told entry (at arc a r) ≡ put_arc (told entry arc) a r
 told_arc entry arc a r = λ i. record (told entry arc) {
-  head = λ k. at_read (λ (r : Record). r.head) arc a r k i;
+  head = λ k. at_read (λ (r : Record). r.arcs_or_head) arc a r k i;
   residual = λ k. at_read residual_of arc a r k i;
-  code = λ k. at_read (λ (r : Record). r.code) arc a r k i;
+  code = λ k. at_read (λ (r : Record). r.needs_or_index) arc a r k i;
 }
 
 -- the record of an entry, or of an arc, is written
@@ -134,29 +134,29 @@ arc_kept table n m a there =
 halves : (x : ℕ) → x % 2 ^ 32 + 2 ^ 32 * (x / 2 ^ 32) ≡ x
 halves x = omega arith
 
-pub columns_entry : (table : List Record) (n m x y : ℕ) → n + 2 * m < length table → columns (set table n (as_entry (front table n) x y)) (n + 1) m ≡ with_entry_at (columns table n m) n x y
+pub columns_entry : (table : List Record) (n m x y : ℕ) → n + 2 * m < length table → columns (set table n (as_entry x y)) (n + 1) m ≡ with_entry_at (columns table n m) n x y
 columns_entry table n m x y room =
-    let r = as_entry (front table n) x y in
+    let r = as_entry x y in
     same_told (λ k. entry_more table n r k (omega arith)) (λ k. arc_far table m n r k (omega arith)) ∙ told_entry (entry_record n table) (arc_record m table) n r
 
-pub columns_needing : (table : List Record) (n m u w : ℕ) → u < n → n + 2 * m ≤ length table → (front table u).needs_or_first < length (front table u).needed → columns (set table u (needing (front table u) w)) n m ≡ with_needed (columns table n m) u w
+pub columns_needing : (table : List Record) (n m u w : ℕ) → u < n → n + 2 * m ≤ length table → (front table u).needs_or_index < length (front table u).needed → columns (set table u (needing (front table u) w)) n m ≡ with_needed (columns table n m) u w
 columns_needing table n m u w there room few =
     let c = columns table n m in
     let old = front table u in
     let here : old ≡ entry_record n table u = rw (lt-ltb u n there) refl in
     columns_entry_set table n m u _ there room
     ∙ (λ i. record (entry_kept table n m u there i) {
-      needed = at c.needed u ((take_more_set old.needed old.needs_or_first w few ∙ ap (λ (r : Record). needed_of r ++ w ∷ []) here) i);
-      needs_or_first = at c.needs_or_first u ((here i).needs_or_first + 1);
-      space = (ap (at c.space u) (length-set old.needed old.needs_or_first w ∙ ap (λ (r : Record). length r.needed) here) ∙ at_id c.space u) i;
-      arcs = at c.arcs u ((here i).arcs + 1);
+      needed = at c.needed u ((take_more_set old.needed old.needs_or_index w few ∙ ap (λ (r : Record). needed_of r ++ w ∷ []) here) i);
+      needs_or_first = at c.needs_or_first u ((here i).needs_or_index + 1);
+      space = (ap (at c.space u) (length-set old.needed old.needs_or_index w ∙ ap (λ (r : Record). length r.needed) here) ∙ at_id c.space u) i;
+      arcs = at c.arcs u ((here i).arcs_or_head + 1);
     })
 
 pub columns_more : (table : List Record) (n m u : ℕ) → u < n → n + 2 * m ≤ length table → columns (set table u (with_arc_more (front table u))) n m ≡ with_arcs (columns table n m) u ((columns table n m).arcs u + 1)
 columns_more table n m u there room =
     let c = columns table n m in
     let here = sym (entry_there table n u there) in
-    columns_entry_set table n m u _ there room ∙ (λ i. record (entry_kept table n m u there i) { arcs = at c.arcs u ((here i).arcs + 1) })
+    columns_entry_set table n m u _ there room ∙ (λ i. record (entry_kept table n m u there i) { arcs = at c.arcs u ((here i).arcs_or_head + 1) })
 
 pub columns_amount : (table : List Record) (n m : ℕ) (t : Terminal) (u x : ℕ) → u < n → n + 2 * m ≤ length table → columns (set table u (with_amount (front table u) t x)) n m ≡ with_amount_at (columns table n m) t u x
 columns_amount table n m Source u x there room = columns_entry_set table n m u _ there room ∙ (λ i. record (entry_kept table n m u there i) { earning = at (columns table n m).earning u x })

@@ -10,7 +10,7 @@ use Rattle.book.specs.Refusals.{among}
 
 -- the record past the end, which nothing reads
 abbrev pub no_record : Record
-no_record = record { earning = 0; cost = 0; needed = []; needs_or_first = 0; arcs = 0; head = 0; code = 0 }
+no_record = record { earning = 0; cost = 0; needed = []; needs_or_index = 0; arcs_or_head = 0 }
 
 -- the record that is number u from the front, and the one that is number a from the end
 abbrev pub front : List Record → ℕ → Record
@@ -48,12 +48,12 @@ told entry arc = record {
   earning = λ u. (entry u).earning;
   cost = λ u. (entry u).cost;
   needed = λ u. needed_of (entry u);
-  needs_or_first = λ u. (entry u).needs_or_first;
+  needs_or_first = λ u. (entry u).needs_or_index;
   space = λ u. length (entry u).needed;
-  arcs = λ u. (entry u).arcs;
-  head = λ a. (arc a).head;
+  arcs = λ u. (entry u).arcs_or_head;
+  head = λ a. (arc a).arcs_or_head;
   residual = λ a. residual_of (arc a);
-  code = λ k. (arc k).code;
+  code = λ k. (arc k).needs_or_index;
 }
 
 -- and of a table with n entries and m needs

@@ -61,26 +61,26 @@ impl<'a> Network for SealedBook<'a> {
     #[inline(always)]
     fn arc_at(&self, node: usize, place: usize) -> Result<Option<usize>, NetworkRefusal> {
         let entry = self.entry(node)?;
-        if place >= usize::from(entry.arcs) {
+        if place >= usize::from(entry.arcs_or_head) {
             return Ok(None);
         }
-        let placed = self.held.arc(usize::from(entry.needs_or_first) + place);
-        Ok(Some(usize::from(placed.code)))
+        let placed = self.held.arc(usize::from(entry.needs_or_index) + place);
+        Ok(Some(usize::from(placed.needs_or_index)))
     }
 
     #[inline(always)]
     fn whole_arc_at(&self, node: usize, place: usize) -> Result<Option<Arc>, NetworkRefusal> {
         let entry = self.entry(node)?;
-        if place >= usize::from(entry.arcs) {
+        if place >= usize::from(entry.arcs_or_head) {
             return Ok(None);
         }
-        let placed = self.held.arc(usize::from(entry.needs_or_first) + place);
-        let code = usize::from(placed.code);
+        let placed = self.held.arc(usize::from(entry.needs_or_index) + place);
+        let code = usize::from(placed.needs_or_index);
         let reverse = mate(code);
         let arc = self.held.arc(code);
         Ok(Some(Arc {
             code,
-            head: usize::from(arc.head),
+            head: usize::from(arc.arcs_or_head),
             reverse,
             residual: arc.residual(),
             back: self.held.arc(reverse).residual(),
@@ -90,8 +90,8 @@ impl<'a> Network for SealedBook<'a> {
     #[inline(always)]
     fn arc_ends(&self, arc: usize) -> Result<(usize, usize, usize), NetworkRefusal> {
         let reverse = self.reverse(arc)?;
-        let tail = self.held.arc(reverse).head;
-        let head = self.held.arc(arc).head;
+        let tail = self.held.arc(reverse).arcs_or_head;
+        let head = self.held.arc(arc).arcs_or_head;
         Ok((usize::from(tail), usize::from(head), reverse))
     }
 

@@ -46,7 +46,7 @@ impl<'a> OpenBook<'a> {
         let held = &mut self.held;
         let number = held.entries;
         let table = &mut *held.table;
-        table[number].become_entry(earning, cost);
+        table[number] = Record::entry(earning, cost);
         held.entries += 1;
         Ok(number)
     }
@@ -78,9 +78,9 @@ fn write_need(table: &mut [Record], number: usize, entry: u16, needed: u16)
     requires needed_there { needed < length table.old }
     requires others { entry ≢ needed }
     requires room { 2 * number + 2 ≤ length table.old }
-    requires few { (front table.old entry).needs_or_first < 4 }
-    requires countable { (front table.old entry).arcs < 65535 }
-    requires needed_countable { (front table.old needed).arcs < 65535 }
+    requires few { (front table.old entry).needs_or_index < 4 }
+    requires countable { (front table.old entry).arcs_or_head < 65535 }
+    requires needed_countable { (front table.old needed).arcs_or_head < 65535 }
     ensures { table.new ≡ need_written table.old number entry needed }
 {
     let (from, to) = (usize::from(entry), usize::from(needed));

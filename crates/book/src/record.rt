@@ -13,32 +13,32 @@ pub struct Record {
     // residual, and the others
     pub earning: u32,
     pub cost: u32,
-    // of an entry: the entries that it needs, in the order of entering, and how many they are, or once sealed the place of its first arc
-    // in the index. An `ArrayVec` of needs could not be copied, as a record is, and of four `Option`s one could be empty before one that
-    // is not
+    // of an entry: the entries that it needs, in the order of entering. An `ArrayVec` of them could not be copied, as a record is, and of
+    // four `Option`s one could be empty before one that is not
     pub needed: [u16; 4],
-    pub needs_or_first: u16,
-    // and how many arcs leave it
-    pub arcs: u16,
-    // of an arc: the entry that it leads to, and once sealed the code of the arc that stands at this place of the index
-    pub head: u16,
-    pub code: u16,
+    // of an entry: how many these are, and once sealed the place of its first arc in the index; of an arc: once sealed, the code of the
+    // arc that stands at this place of the index
+    pub needs_or_index: u16,
+    // of an entry: how many arcs leave it; of an arc: the entry that it leads to
+    pub arcs_or_head: u16,
 }
 
 // The lowest number of more than 32 bits.
 const HIGH: u64 = 4_294_967_296;
 
 impl Record {
-    // Makes it an entry without needs. The amounts stay two numbers: a struct of both would be made in `enter` only to be taken apart here.
+    // An entry without needs. The amounts stay two numbers: a struct of both would be made in `enter` only to be taken apart here.
     #[inline(always)]
-    pub(crate) fn become_entry(&mut self, earning: u32, cost: u32)
-        ensures { self.new ≡ as_entry self.old earning cost }
+    pub(crate) fn entry(earning: u32, cost: u32) -> Record
+        ensures { result ≡ as_entry earning cost }
     {
-        self.earning = earning;
-        self.cost = cost;
-        self.needed = [0; 4];
-        self.needs_or_first = 0;
-        self.arcs = 0;
+        Record {
+            earning,
+            cost,
+            needed: [0; 4],
+            needs_or_index: 0,
+            arcs_or_head: 0,
+        }
     }
 
     // Makes it an arc that leads to an entry, and an empty place of the index.
@@ -46,8 +46,8 @@ impl Record {
     pub(crate) fn become_arc(&mut self, head: u16, residual: u64)
         ensures { self.new ≡ as_arc self.old head residual }
     {
-        self.head = head;
-        self.code = 0;
+        self.arcs_or_head = head;
+        self.needs_or_index = 0;
         self.set_residual(residual);
     }
 
@@ -71,22 +71,22 @@ impl Record {
     // Notes one more entry that it needs, and counts the arc to it.
     #[inline(always)]
     pub(crate) fn note_need(&mut self, needed: u16)
-        requires room { self.old.needs_or_first < 4 }
-        requires countable { self.old.arcs < 65535 }
+        requires room { self.old.needs_or_index < 4 }
+        requires countable { self.old.arcs_or_head < 65535 }
         ensures { self.new ≡ needing self.old needed }
     {
-        self.needed[usize::from(self.needs_or_first)] = needed;
-        self.needs_or_first += 1;
-        self.arcs += 1;
+        self.needed[usize::from(self.needs_or_index)] = needed;
+        self.needs_or_index += 1;
+        self.arcs_or_head += 1;
     }
 
     // Counts one more arc.
     #[inline(always)]
     pub(crate) fn count_arc(&mut self)
-        requires { self.old.arcs < 65535 }
+        requires { self.old.arcs_or_head < 65535 }
         ensures { self.new ≡ with_arc_more self.old }
     {
-        self.arcs += 1;
+        self.arcs_or_head += 1;
     }
 
     // Raises the residual of an arc.
@@ -101,16 +101,16 @@ impl Record {
     // The entries that it needs, in the order of entering.
     #[inline(always)]
     pub(crate) fn needed(&self) -> &[u16]
-        requires { self.now.needs_or_first ≤ 4 }
-        ensures { result.now ≡ take self.now.needs_or_first self.now.needed }
+        requires { self.now.needs_or_index ≤ 4 }
+        ensures { result.now ≡ take self.now.needs_or_index self.now.needed }
     {
-        &self.needed[..usize::from(self.needs_or_first)]
+        &self.needed[..usize::from(self.needs_or_index)]
     }
 
     // Whether the entry needs another already.
     pub(crate) fn has_need(&self, needed: u16) -> bool
-        requires { self.now.needs_or_first ≤ 4 }
-        ensures { result ≡ among needed (take self.now.needs_or_first self.now.needed) }
+        requires { self.now.needs_or_index ≤ 4 }
+        ensures { result ≡ among needed (take self.now.needs_or_index self.now.needed) }
     {
         self.needed().contains(&needed)
     }

@@ -105,7 +105,7 @@ impl NeedRefusal {
             Err(NeedRefusal::Itself)
         } else if record.has_need(needed as u16) {
             Err(NeedRefusal::Repeated)
-        } else if usize::from(record.needs_or_first) >= MOST_NEEDS {
+        } else if usize::from(record.needs_or_index) >= MOST_NEEDS {
             Err(NeedRefusal::ManyNeeds)
         } else if unused < 2 {
             Err(NeedRefusal::FewRecords)

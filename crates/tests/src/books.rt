@@ -13,10 +13,8 @@ pub(crate) const UNUSED: Record = Record {
     earning: 91,
     cost: 92,
     needed: [93, 94, 95, 96],
-    needs_or_first: 97,
-    arcs: 98,
-    head: 99,
-    code: 100,
+    needs_or_index: 97,
+    arcs_or_head: 98,
 };
 
 // What can be sent along a need.

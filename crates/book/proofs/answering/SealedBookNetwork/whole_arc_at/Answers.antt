@@ -38,6 +38,6 @@ returns c =
     let b = c.args.self.now in
     let there : c.args.node < b.held.entries = grind (arith, nat_tests) in
     let entry : c.in_ok-entry.entry ≡ front (sealed_table b) c.args.node = grind (arith, nat_tests) in
-    let inside : c.args.place < (front (sealed_table b) c.args.node).arcs = grind (arith, nat_tests) in
+    let inside : c.args.place < (front (sealed_table b) c.args.node).arcs_or_head = grind (arith, nat_tests) in
     let is = whole_placed b c.args.node c.args.place there inside in
     cc
