@@ -13,7 +13,7 @@ use super::table::Table;
 use super::tracing::Traced;
 use network::{Network, Terminal};
 
-// Sends an amount along an arc; if that empties it, whoever hangs from it becomes an orphan first.
+// Sends an amount along an arc; if that empties it, whoever hangs from it becomes an orphan.
 fn send<N: Network>(net: &mut N, table: &mut Table, arc: usize, amount: u64)
     requires trees { Trees (N.Network.value net.old) (forest_of table.old) }
     requires onward { OnwardArc (N.Network.value net.old) (forest_of table.old) arc }
@@ -23,11 +23,16 @@ fn send<N: Network>(net: &mut N, table: &mut Table, arc: usize, amount: u64)
     ensures trees { Trees (N.Network.value net.new) (forest_of table.new) }
     ensures same { Carries (forest_of table.old) (forest_of table.new) }
 {
+    // shifted in both arms, and the ends asked for before: so the arc is looked up once, for all that is asked of it
     if residual(net, arc) == amount {
-        table.disown(near_end(net, Terminal::Source, arc), arc);
-        table.disown(near_end(net, Terminal::Sink, arc), arc);
+        let tail = near_end(net, Terminal::Source, arc);
+        let head = near_end(net, Terminal::Sink, arc);
+        shift_along(net, arc, amount);
+        table.disown(tail, arc);
+        table.disown(head, arc);
+    } else {
+        shift_along(net, arc, amount);
     }
-    shift_along(net, arc, amount);
 }
 
 // Takes an amount at a node's terminal residual; if nothing is left of it, the node becomes an orphan.
