@@ -84,6 +84,7 @@ impl<N: Network> Adoption<'_, N> {
     }
 
     // The first neighbour that an orphan can take as its parent.
+    #[inline(always)]
     fn find_parent(&self, table: &Table, node: usize) -> Option<Neighbour>
         requires survey { Survey (N.Network.value self.now.net.now) (forest_of table.now) self.now.stage }
         requires there { node < (N.Network.value self.now.net.now).graph.nodes }
@@ -98,6 +99,7 @@ impl<N: Network> Adoption<'_, N> {
     }
 
     // Frees an orphan: its children become orphans, and those from which its tree could take it again wait.
+    #[inline(always)]
     fn free(&self, table: &mut Table, node: usize)
         requires trees { TreesBut (N.Network.value self.now.net.now) (forest_of table.old) Orphans node }
         requires there { node < (N.Network.value self.now.net.now).graph.nodes }
@@ -137,6 +139,7 @@ impl<N: Network> Adoption<'_, N> {
     }
 
     // Finds a parent for an orphan, or frees it.
+    #[inline(always)]
     fn adopt_one(&self, table: &mut Table, node: usize)
         requires trees { TreesBut (N.Network.value self.now.net.now) (forest_of table.old) Orphans node }
         requires there { node < (N.Network.value self.now.net.now).graph.nodes }
@@ -157,6 +160,39 @@ impl<N: Network> Adoption<'_, N> {
     }
 }
 
+// The same, compiled for each tree by itself.
+fn adopt_in<N: Network>(net: &N, table: &mut Table, terminal: Terminal, stage: u64, node: usize)
+    requires trees { TreesBut (N.Network.value net.now) (forest_of table.old) Orphans node }
+    requires there { node < (N.Network.value net.now).graph.nodes }
+    requires mine { (forest_of table.old).tree node ≡ Some terminal }
+    requires alone { (forest_of table.old).parent node ≡ Orphan }
+    requires survey { Survey (N.Network.value net.now) (forest_of table.old) stage }
+    ensures trees { Trees (N.Network.value net.now) (forest_of table.new) }
+    ensures survey { Survey (N.Network.value net.now) (forest_of table.new) stage }
+    ensures left { adoption_left (N.Network.value net.now).graph.nodes (forest_of table.new) ≤ adoption_left (N.Network.value net.now).graph.nodes (forest_of table.old) }
+{
+    match terminal {
+        Terminal::Source => {
+            let terminal = Terminal::Source;
+            Adoption {
+                net,
+                terminal,
+                stage,
+            }
+            .adopt_one(table, node)
+        }
+        Terminal::Sink => {
+            let terminal = Terminal::Sink;
+            Adoption {
+                net,
+                terminal,
+                stage,
+            }
+            .adopt_one(table, node)
+        }
+    }
+}
+
 // Finds parents for all orphans, or frees them. The stage is a number that no record carries yet.
 pub(crate) fn adopt<N: Network>(net: &N, table: &mut Table, stage: u64)
     requires trees { Trees (N.Network.value net.now) (forest_of table.old) }
@@ -167,12 +203,7 @@ pub(crate) fn adopt<N: Network>(net: &N, table: &mut Table, stage: u64)
 {
     while let Some(node) = table.pick(Lane::Orphans) {
         if let Some(terminal) = orphan_tree(table.work(node)) {
-            let adoption = Adoption {
-                net,
-                terminal,
-                stage,
-            };
-            adoption.adopt_one(table, node);
+            adopt_in(net, table, terminal, stage, node);
         }
     }
 }

@@ -6,11 +6,11 @@ use Rattle.trees.proofs.Changes.{forget_trees}
 use Rattle.trees.proofs.Picking.{turn_trees, turn_survey, orphan_left}
 use Rattle.search.proofs.adoption.adopt.Goals as goal
 
-pub adopt_one-requires-clause-trees : goal.adopt_one-requires-clause-trees
-adopt_one-requires-clause-trees g c = turn_trees Orphans c.in-Some.node c.loop-node.invariant.0 c.in-Some.ensures.2
+pub adopt_in-requires-clause-trees : goal.adopt_in-requires-clause-trees
+adopt_in-requires-clause-trees g c = turn_trees Orphans c.in-Some.node c.loop-node.invariant.0 c.in-Some.ensures.2
 
-pub adopt_one-requires-clause-survey : goal.adopt_one-requires-clause-survey
-adopt_one-requires-clause-survey g c = turn_survey _ c.loop-node.invariant.1 c.in-Some.ensures.2
+pub adopt_in-requires-clause-survey : goal.adopt_in-requires-clause-survey
+adopt_in-requires-clause-survey g c = turn_survey _ c.loop-node.invariant.1 c.in-Some.ensures.2
 
 pub loop-node-smaller-in-Some-orphan_tree : goal.loop-node-smaller-in-Some-orphan_tree
 loop-node-smaller-in-Some-orphan_tree g c =
