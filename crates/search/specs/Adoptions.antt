@@ -6,7 +6,7 @@ use Rattle.network.specs.Sides.{near, far}
 use Rattle.trees.specs.declared.lane.Lane.TheVariants.{Waiting}
 use Rattle.trees.specs.declared.work.Parent.TheVariants.{Orphan}
 use Rattle.trees.specs.declared.work.Work.{Work}
-use Rattle.trees.specs.Forests.{Forest, with_queued}
+use Rattle.trees.specs.Forests.{Forest, terminal_of, with_queued}
 use Rattle.trees.specs.Trees.{is_of}
 use Rattle.trees.specs.Surveys.{Offered}
 use Rattle.trees.specs.Carryings.{disowned}
@@ -23,8 +23,8 @@ Found v f t u (Some h) = Offered v f t u h.inward h.node
 
 -- the tree of an orphan
 abbrev pub OrphanOf : Work → Option Terminal → Type 0
-OrphanOf w None = (t : Terminal) → w.tree ≡ Some t → w.parent ≢ Orphan
-OrphanOf w (Some t) = (w.tree ≡ Some t) × (w.parent ≡ Orphan)
+OrphanOf w None = (t : Terminal) → terminal_of w.tree ≡ Some t → w.parent ≢ Orphan
+OrphanOf w (Some t) = (terminal_of w.tree ≡ Some t) × (w.parent ≡ Orphan)
 
 -- f where a neighbour waits, if something can be sent from it
 abbrev pub woken : Neighbour → Forest → Forest

@@ -212,5 +212,7 @@ pub(crate) fn adopt<N: Network>(net: &N, table: &mut Table, stage: u64)
 fn orphan_tree(work: &Work) -> Option<Terminal>
     ensures { OrphanOf work.now result }
 {
-    work.tree.filter(|_| work.parent == Parent::Orphan)
+    work.tree
+        .terminal()
+        .filter(|_| work.parent == Parent::Orphan)
 }

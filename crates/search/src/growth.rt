@@ -28,7 +28,7 @@ fn scan_for<N: Network>(
 {
     for next in neighbours(net, terminal, node) {
         if !table.is_in(next.node, terminal) && next.outward_residual > 0 {
-            match table.work(next.node).tree {
+            match table.tree(next.node) {
                 None => table.join(terminal, next.node, hanging(next.outward, node)),
                 Some(_) => return Some(next.outward),
             }
@@ -64,7 +64,7 @@ pub(crate) fn grow<N: Network>(net: &N, table: &mut Table) -> Option<usize>
     ensures grows { Grows (forest_of table.old) (forest_of table.new) }
 {
     while let Some(node) = table.pick(Lane::Waiting) {
-        if let Some(terminal) = table.work(node).tree {
+        if let Some(terminal) = table.tree(node) {
             if let Some(bridge) = scan(net, table, terminal, node) {
                 table.put(Lane::Waiting, node);
                 return Some(bridge);

@@ -27,6 +27,6 @@ pub(crate) fn mark(table: &Table, marks: &mut [u8])
 {
     // `zip` with the records was tried: what the marks are while it holds them the proof cannot name
     for (node, mark) in marks.iter_mut().enumerate() {
-        *mark = mark_of(table.work(node).tree).into();
+        *mark = mark_of(table.tree(node)).into();
     }
 }

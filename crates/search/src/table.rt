@@ -8,7 +8,7 @@ ghost use Rattle.trees.specs.Rings.{wrap};
 ghost use Rattle.trees.specs.Searches.{Kept};
 
 use network::Terminal;
-use trees::{Lane, Parent, Queues, Ring, Work};
+use trees::{Lane, Parent, Queues, Ring, Tree, Work};
 
 // The records and the queues' rings. The network is no field: a struct with its loan would have each function that changes it say
 // that it still holds the same loan. Nor is it a ghost field that the trees stand, which was tried: such a fact has one proof at most,
@@ -58,13 +58,22 @@ impl<'a> Table<'a> {
         &self.records()[node]
     }
 
+    // The terminal whose tree a node is in.
+    #[inline(always)]
+    pub(crate) fn tree(&self, node: usize) -> Option<Terminal>
+        requires { node < (forest_of self.now).size }
+        ensures { result ≡ (forest_of self.now).tree node }
+    {
+        self.work(node).tree.terminal()
+    }
+
     // Whether a node is in the tree of a terminal.
     #[inline(always)]
     pub(crate) fn is_in(&self, node: usize, terminal: Terminal) -> bool
         requires { node < (forest_of self.now).size }
         ensures { result ≡ is_of ((forest_of self.now).tree node) terminal }
     {
-        self.work(node).tree == Some(terminal)
+        self.work(node).tree.is_of(terminal)
     }
 
     // Puts a node into a tree, or out of both. That a node has a record is asked by each function that goes to it, as by an index.
@@ -72,7 +81,7 @@ impl<'a> Table<'a> {
         requires { node < (forest_of self.old).size }
         ensures { forest_of self.new ≡ with_tree (forest_of self.old) node tree }
     {
-        self.work[node].tree = tree;
+        self.work[node].tree = Tree::of(tree);
     }
 
     // Hangs a node from another parent. The field is all that it does not share with `set_tree`.

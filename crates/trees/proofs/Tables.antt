@@ -9,8 +9,9 @@ use Rattle.trees.specs.declared.lane.Lane.{Lane}
 use Rattle.trees.specs.declared.lane.Lane.TheVariants.{Waiting, Orphans}
 use Rattle.trees.specs.declared.lane.Lanes.{Lanes}
 use Rattle.trees.specs.declared.work.Parent.{Parent}
+use Rattle.trees.specs.declared.work.Tree.{Tree}
 use Rattle.trees.specs.declared.work.Work.{Work}
-use Rattle.trees.specs.Forests.{Forest, blank, work_at, put_lane, forest, slots, cleared, at_lane, with_tree, with_parent, with_queued, with_stage}
+use Rattle.trees.specs.Forests.{Forest, blank, work_at, put_lane, forest, terminal_of, slots, cleared, at_lane, with_tree, with_parent, with_queued, with_stage}
 
 pub work_at_set : (ws : List Work) (u : ℕ) (w : Work) (k : ℕ) → u < length ws → work_at (set ws u w) k ≡ at (work_at ws) u w k
 work_at_set ws u w k h = grind (arith, nat_tests, get_or-set_same, get_or-set_other)
@@ -34,7 +35,7 @@ same_forest f g sizes same = λ i. record {
     queued Orphans k = ap (λ x. x.2.1) (same k)
 
 -- w with another tree, with another parent, and with another stage
-abbrev pub put_tree : Option Terminal → Work → Work
+abbrev pub put_tree : Tree → Work → Work
 put_tree t w = record { tree = t; parent = w.parent; queued = w.queued; slots = w.slots; stage = w.stage }
 
 abbrev pub put_parent : Parent → Work → Work
@@ -50,7 +51,7 @@ put_queued q w = record { tree = w.tree; parent = w.parent; queued = q; slots = 
 abbrev pub put_slots : Lanes ℕ → Work → Work
 put_slots s w = record { tree = w.tree; parent = w.parent; queued = w.queued; slots = s; stage = w.stage }
 
-pub forest_tree : (ws : List Work) (u : ℕ) (t : Option Terminal) → u < length ws → forest (set ws u (put_tree t (work_at ws u))) ≡ with_tree (forest ws) u t
+pub forest_tree : (ws : List Work) (u : ℕ) (t : Tree) → u < length ws → forest (set ws u (put_tree t (work_at ws u))) ≡ with_tree (forest ws) u (terminal_of t)
 forest_tree ws u t h = same_forest _ _ (length-set ws u _) (λ k. grind (arith, nat_tests, work_at_set ws u (put_tree t (work_at ws u)) k h))
 
 pub forest_parent : (ws : List Work) (u : ℕ) (p : Parent) → u < length ws → forest (set ws u (put_parent p (work_at ws u))) ≡ with_parent (forest ws) u p

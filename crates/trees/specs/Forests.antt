@@ -1,6 +1,7 @@
 -- What a table of records means: each node's tree and parent, and the nodes in each queue.
 use Rattle.std.specs.Prelude.{ℕ, Bool, true, false, List, length, Some, None, Option, slice_index_or}
 use Rattle.network.specs.declared.terminal.Terminal.{Terminal}
+use Rattle.network.specs.declared.terminal.Terminal.TheVariants as Terminals
 use Rattle.network.specs.Nets.{at}
 use Rattle.trees.specs.declared.lane.Lane.{Lane}
 use Rattle.trees.specs.declared.lane.Lane.TheVariants.{Waiting, Orphans}
@@ -8,6 +9,8 @@ use Rattle.trees.specs.declared.lane.Lanes.{Lanes}
 use Rattle.trees.specs.declared.ring.Ring.{Ring}
 use Rattle.trees.specs.declared.work.Parent.{Parent}
 use Rattle.trees.specs.declared.work.Parent.TheVariants.{Orphan}
+use Rattle.trees.specs.declared.work.Tree.{Tree}
+use Rattle.trees.specs.declared.work.Tree.TheVariants.{Neither, Source, Sink}
 use Rattle.trees.specs.declared.work.Work.{Work}
 
 pub record Forest : Type 0 where
@@ -26,10 +29,16 @@ both x = record { waiting = x; orphans = x }
 
 -- the record of a node in no tree and no queue; past the end of a table too, where nothing reads it
 abbrev pub blank : Work
-blank = record { tree = None; parent = Orphan; queued = both false; slots = both 0; stage = 0 }
+blank = record { tree = Neither; parent = Orphan; queued = both false; slots = both 0; stage = 0 }
 
 abbrev pub work_at : List Work → ℕ → Work
 work_at ws u = slice_index_or ws u blank
+
+-- the terminal whose tree it is
+abbrev pub terminal_of : Tree → Option Terminal
+terminal_of Neither = None
+terminal_of Source = Some Terminals.Source
+terminal_of Sink = Some Terminals.Sink
 
 -- the value for a queue
 abbrev pub lane_of : {A : Type 0} → Lane → Lanes A → A
@@ -44,7 +53,7 @@ put_lane Orphans x p = record { waiting = p.waiting; orphans = x }
 abbrev pub forest : List Work → Forest
 forest ws = record {
   size = length ws;
-  tree = λ u. (work_at ws u).tree;
+  tree = λ u. terminal_of (work_at ws u).tree;
   parent = λ u. (work_at ws u).parent;
   queued = λ l u. lane_of l (work_at ws u).queued;
   stage = λ u. (work_at ws u).stage;

@@ -7,4 +7,4 @@ mod work;
 
 pub use lane::{Lane, Lanes};
 pub use ring::{Queues, Ring};
-pub use work::{Parent, Work};
+pub use work::{Parent, Tree, Work};

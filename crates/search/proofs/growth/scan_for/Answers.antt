@@ -9,8 +9,8 @@ use Rattle.search.proofs.growth.scan_for.Goals.{else-not-is_in-via-then-not-is_i
 pub is_in-requires : goal.is_in-requires
 is_in-requires g c = scanning_there g.N.Network.value (g.N.Network.lawful c.args.net.now) c.loop-next.invariant c.in-Some.ensures.steps
 
-pub work-requires : goal.work-requires
-work-requires g c = scanning_there g.N.Network.value (g.N.Network.lawful c.args.net.now) c.loop-next.invariant c.in-Some.ensures.steps
+pub tree-requires : goal.tree-requires
+tree-requires g c = scanning_there g.N.Network.value (g.N.Network.lawful c.args.net.now) c.loop-next.invariant c.in-Some.ensures.steps
 
 pub hanging-requires : goal.hanging-requires
 hanging-requires g c =

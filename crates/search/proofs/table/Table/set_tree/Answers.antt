@@ -1,4 +1,5 @@
-use Rattle.std.proofs.Common.{refl}
+use Rattle.std.proofs.Common.{refl, ap, ◌∙◌}
+use Rattle.trees.specs.Forests.{forest, with_tree}
 use Rattle.trees.proofs.Tables.{forest_tree, slots_same, few_kept}
 use Rattle.trees.proofs.Queueing.{sound_is}
 use Rattle.search.proofs.table.Table.set_tree.Goals as goal
@@ -10,4 +11,4 @@ pub invariant_of-self-clause-few : goal.invariant_of-self-clause-few
 invariant_of-self-clause-few c = few_kept _ _ _ c.args.self.now.few
 
 pub returns : goal.returns
-returns c = forest_tree _ _ _ c.requires
+returns c = forest_tree _ _ _ c.requires ∙ ap (with_tree (forest c.args.self.now.work.now) c.args.node) c.of.ensures
