@@ -143,15 +143,12 @@ amount_there r Source = refl
 amount_there r Sink = refl
 
 -- r is the entry u, with x less
-pub after_taken : (b : SealedBook) (t : Terminal) (u x : ℕ) {entry r : Record} {less : Option Record} → Ok entry ≡ at_node (sealed_value b) u (front (sealed_table b) u) → less ≡ cond (leb x (amount_of entry t)) (Some (with_amount entry t (amount_of entry t - x))) None → Ok r ≡ ok_or less AboveResidual → After b (after_take (sealed_value b) t u x) (set (sealed_table b) u r)
-after_taken b t u x {entry} {r} {less} node taking is =
+pub after_taken : (b : SealedBook) (t : Terminal) (u x : ℕ) {r : Record} → u < b.held.entries → x ≤ amount_of (front (sealed_table b) u) t → r ≡ with_amount (front (sealed_table b) u) t (amount_of (front (sealed_table b) u) t - x) → After b (after_take (sealed_value b) t u x) (set (sealed_table b) u r)
+after_taken b t u x {r} there within made =
     let table = sealed_table b in
     let n = b.held.entries in
     let m = b.held.needs in
     let has = amount_of (front table u) t in
-    let there : u < n = grind (arith, nat_tests) in
-    let within : x ≤ has = grind (arith, nat_tests) in
-    let made : r ≡ with_amount (front table u) t (has - x) = grind (arith, nat_tests) in
     let same = amount_there (front table u) t in
     let here : amount t (amounts_in (columns table n m) u) ≡ has = rw (lt-ltb u n there) same in
     let columns_are : columns (set table u r) n m ≡ with_amount_at (columns table n m) t u (has - x) = ap (λ (r : Record). columns (set table u r) n m) made ∙ columns_amount table n m t u (has - x) there b.held.room in

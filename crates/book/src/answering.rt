@@ -103,10 +103,11 @@ impl<'a> Network for SealedBook<'a> {
 
     #[inline(always)]
     fn take(&mut self, terminal: Terminal, node: usize, amount: u64) -> Result<(), NetworkRefusal> {
-        let taken = self.entry(node)?.taken(terminal, amount);
-        let left = taken.ok_or(NetworkRefusal::AboveResidual)?;
+        let left = self.entry(node)?.amount(terminal).checked_sub(amount);
+        let left = left.ok_or(NetworkRefusal::AboveResidual)?;
         let held = &mut self.held;
-        held.table[node] = left;
+        let table = &mut *held.table;
+        table[node].set_amount(terminal, left as u32);
         Ok(())
     }
 

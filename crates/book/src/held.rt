@@ -49,5 +49,5 @@ pub(crate) fn mate(arc: usize) -> usize
     requires { arc < 32768 }
     ensures { result ≡ mate arc }
 {
-    if arc % 2 == 0 { arc + 1 } else { arc - 1 }
+    arc ^ 1
 }

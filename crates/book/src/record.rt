@@ -125,20 +125,14 @@ impl Record {
         }
     }
 
-    // The entry with so much less at a terminal; none where it has not so much.
-    pub(crate) fn taken(self, terminal: Terminal, amount: u64) -> Option<Record>
-        ensures { result ≡ cond (nat_le amount (amount_of self terminal)) (Some (with_amount self terminal (amount_of self terminal - amount))) None }
+    // Gives the entry another amount at a terminal.
+    #[inline(always)]
+    pub(crate) fn set_amount(&mut self, terminal: Terminal, amount: u32)
+        ensures { self.new ≡ with_amount self.old terminal amount }
     {
-        let amount = u32::try_from(amount).ok()?;
         match terminal {
-            Terminal::Source => Some(Record {
-                earning: self.earning.checked_sub(amount)?,
-                ..self
-            }),
-            Terminal::Sink => Some(Record {
-                cost: self.cost.checked_sub(amount)?,
-                ..self
-            }),
+            Terminal::Source => self.earning = amount,
+            Terminal::Sink => self.cost = amount,
         }
     }
 }
