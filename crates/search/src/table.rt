@@ -110,7 +110,7 @@ impl<'a> Table<'a> {
             return;
         }
         let Ring { head, count } = self.queues.get(lane);
-        let place = place_after(self.work.len(), head, count);
+        let place = wrapped(self.work.len(), head + count);
         enqueue(self.work, lane, place, node);
         let longer = Ring {
             head,
@@ -129,10 +129,10 @@ impl<'a> Table<'a> {
             return None;
         }
         let size = self.work.len();
-        let node = self.work[place_after(size, head, 0)].slots.get(lane) as usize;
+        let node = self.work[head].slots.get(lane) as usize;
         dequeue(self.work, lane, node);
         let shorter = Ring {
-            head: place_after(size, head, 1),
+            head: wrapped(size, head + 1),
             count: count - 1,
         };
         self.queues.set(lane, shorter);
@@ -182,18 +182,12 @@ pub(crate) fn hanging(arc: usize, node: usize) -> Parent
     }
 }
 
-// The place of a ring that lies some steps after its first; the place after the table's last record is the first.
+// The place of a ring that has this number, counted on past the table's last record: the place after that is the first.
 #[inline(always)]
-fn place_after(size: usize, head: usize, steps: usize) -> usize
-    requires { head ≤ size }
-    ensures { result ≡ wrap size (head + steps) }
+fn wrapped(size: usize, number: usize) -> usize
+    ensures { result ≡ wrap size number }
 {
-    let before_end = size - head;
-    if steps < before_end {
-        head + steps
-    } else {
-        steps - before_end
-    }
+    if number < size { number } else { number - size }
 }
 
 // Writes a node to a place of a queue's ring, and marks it as queued.

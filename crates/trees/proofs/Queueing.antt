@@ -33,9 +33,9 @@ shorter n r = record { head = wrap n (r.head + 1); count = r.count - 1 }
 pub sound_put : (f : Forest) (slot : Lane → ℕ → ℕ) (q : Lanes Ring) (l : Lane) (u : ℕ) → Sound f slot q → u < f.size → f.queued l u ≡ false → Sound (with_queued f l u true) (at_lane slot l (at (slot l) (wrap f.size ((lane_of l q).head + (lane_of l q).count)) u)) (put_lane l (longer (lane_of l q)) q)
 sound_put f slot q l u sound there new = sound_lane f slot q l u true _ _ sound (held_more f.size (f.queued l) (slot l) (lane_of l q) u (sound l) there new)
 
-pub sound_picked : (f : Forest) (slot : Lane → ℕ → ℕ) (q : Lanes Ring) (l : Lane) → Sound f slot q → 0 < (lane_of l q).count → Sound (with_queued f l (slot l (wrap f.size ((lane_of l q).head + 0))) false) slot (put_lane l (shorter f.size (lane_of l q)) q)
+pub sound_picked : (f : Forest) (slot : Lane → ℕ → ℕ) (q : Lanes Ring) (l : Lane) → Sound f slot q → 0 < (lane_of l q).count → Sound (with_queued f l (slot l (lane_of l q).head) false) slot (put_lane l (shorter f.size (lane_of l q)) q)
 sound_picked f slot q l sound some =
-    let u = slot l (wrap f.size ((lane_of l q).head + 0)) in
+    let u = slot l (lane_of l q).head in
     let r = shorter f.size (lane_of l q) in
     let same : at_lane slot l (slot l) ≡ slot = λ i m. at_lane_same slot l m i in
     subst (λ (s : Lane → ℕ → ℕ). Sound (with_queued f l u false) s (put_lane l r q)) same (sound_lane f slot q l u false (slot l) r sound (held_less f.size (f.queued l) (slot l) (lane_of l q) (sound l) some))
@@ -53,7 +53,7 @@ pub put_room : (f : Forest) (slot : Lane → ℕ → ℕ) (q : Lanes Ring) (l : 
 put_room f slot q l u sound there new = let held = sound l in omega (arith, held.count, tally_more f.size (f.queued l) u there new, tally_le f.size (at (f.queued l) u true))
 
 pub put_place : (f : Forest) (slot : Lane → ℕ → ℕ) (q : Lanes Ring) (l : Lane) (u : ℕ) → Sound f slot q → u < f.size → f.queued l u ≡ false → wrap f.size ((lane_of l q).head + (lane_of l q).count) < f.size
-put_place f slot q l u sound there new = wrap_below f.size (lane_of l q).head (lane_of l q).count (sound l).inside (put_room f slot q l u sound there new)
+put_place f slot q l u sound there new = wrap_below f.size (lane_of l q).head (lane_of l q).count ((sound l).inside (omega arith)) (put_room f slot q l u sound there new)
 
 -- where no node is queued, empty rings hold what they say
 pub sound_cleared : (n : ℕ) (slot : Lane → ℕ → ℕ) → Sound (cleared n) slot no_queues

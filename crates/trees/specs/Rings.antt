@@ -16,7 +16,7 @@ wrap n i = cond (nat_lt i n) i (i - n)
 
 -- the ring r holds each node of m once
 pub record Held (n : ℕ) (m : ℕ → Bool) (slot : ℕ → ℕ) (r : Ring) : Type 0 where
-  pub inside : r.head ≤ n
+  pub inside : 0 < n → r.head < n
   pub count : r.count ≡ tally n m
   pub there : (i : ℕ) → i < r.count → slot (wrap n (r.head + i)) < n
   pub marked : (i : ℕ) → i < r.count → m (slot (wrap n (r.head + i))) ≡ true
