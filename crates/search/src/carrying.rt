@@ -52,9 +52,12 @@ fn take_end<N: Network>(
     ensures trees { Trees (N.Network.value net.new) (forest_of table.new) }
     ensures same { Carries (forest_of table.old) (forest_of table.new) }
 {
-    take_from(net, terminal, node, amount);
-    if terminal_residual(net, terminal, node) == 0 {
+    // as in `send`, one look for all that is asked
+    if terminal_residual(net, terminal, node) == amount {
+        take_from(net, terminal, node, amount);
         table.orphan(node);
+    } else {
+        take_from(net, terminal, node, amount);
     }
 }
 

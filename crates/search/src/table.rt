@@ -132,7 +132,7 @@ impl<'a> Table<'a> {
         let node = self.work[head].slots.get(lane) as usize;
         dequeue(self.work, lane, node);
         let shorter = Ring {
-            head: wrapped(size, head + 1),
+            head: place_after(size, head),
             count: count - 1,
         };
         self.queues.set(lane, shorter);
@@ -188,6 +188,15 @@ fn wrapped(size: usize, number: usize) -> usize
     ensures { result ≡ wrap size number }
 {
     if number < size { number } else { number - size }
+}
+
+// The place of a ring after another.
+#[inline(always)]
+fn place_after(size: usize, place: usize) -> usize
+    requires { place < size }
+    ensures { result ≡ wrap size (place + 1) }
+{
+    if place + 1 < size { place + 1 } else { 0 }
 }
 
 // Writes a node to a place of a queue's ring, and marks it as queued.

@@ -55,7 +55,7 @@ taken_else v Source Sink u x w apart = refl
 taken_else v Sink Source u x w apart = refl
 taken_else v Sink Sink u x w apart = at_else (v.terminal Sink) u (v.terminal Sink u - x) w (apart refl)
 
-pub taken_here : (v : Net) (t : Terminal) (u x : ℕ) → (taken v t u x).terminal t u ≡ v.terminal t u - x
+taken_here : (v : Net) (t : Terminal) (u x : ℕ) → (taken v t u x).terminal t u ≡ v.terminal t u - x
 taken_here v Source u x = at_here (v.terminal Source) u (v.terminal Source u - x) u refl
 taken_here v Sink u x = at_here (v.terminal Sink) u (v.terminal Sink u - x) u refl
 

@@ -15,5 +15,5 @@ invariant_of-self-clause-kept c =
     let q = c.args.self.now.queues in
     let l = c.args.lane in
     let is = rw c.get-head.ensures at c.get-node.ensures in
-    let rings = rw (c.wrapped.ensures, c.get-head.ensures) at c.set.ensures in
+    let rings = rw (c.place_after.ensures, c.get-head.ensures) at c.set.ensures in
     sound_is (c.dequeue.ensures.trees ∙ ap (λ x. with_queued (forest ws) l x false) is) c.dequeue.ensures.places rings (sound_picked (forest ws) (slots ws) q l c.args.self.now.kept (omega (arith, ap (λ (r : Ring). r.count) c.get-head.ensures)))
