@@ -1,11 +1,12 @@
 -- The needs of a record, read one after another.
-use Rattle.std.proofs.Common.{◌≢◌, nat_lt, [], ◌∷◌, ◌≡◌, ℕ, zero, suc, ◌+◌, ◌-◌, ◌*◌, ◌<◌, ◌≤◌, List, length, get_or, sym, refl, ap, ◌∙◌, ⊎_elim, add-zero, arith}
+use Rattle.std.proofs.Common.{true, false, Bool, ◌&&◌, Decides, ◌≢◌, nat_lt, [], ◌∷◌, ◌≡◌, ℕ, zero, suc, ◌+◌, ◌-◌, ◌*◌, ◌<◌, ◌≤◌, List, length, get_or, sym, refl, ap, ◌∙◌, ⊎_elim, add-zero, arith}
 use Rattle.std.proofs.ByRecursion.{All-get_or, All-from_get_or}
-use Rattle.std.proofs.lemmas.Bool.{cases_lt}
+use Rattle.std.proofs.lemmas.Bool.{cases_lt, false≢true}
 use Rattle.std.proofs.lemmas.Option.{slice_get-get_or, slice_get_past}
 use Rattle.std.specs.Bool.{then_some}
 use Rattle.std.specs.List.{AllByRecursion, slice_get}
 use Rattle.sheet.specs.Format.{Entry}
+use Rattle.sheet.specs.Layout.{InOrder}
 use Rattle.sheet.specs.Places.{number_at, needs_at}
 use Rattle.sheet.specs.Sound.{Ordered, There}
 
@@ -20,67 +21,39 @@ get_or_needs_at bs p zero j h = absurd (omega arith)
 get_or_needs_at bs p (suc k) zero h = ap (λ q. number_at bs q 2) (omega arith)
 get_or_needs_at bs p (suc k) (suc j) h = get_or_needs_at bs (p + 2) k j (omega arith) ∙ ap (λ q. number_at bs q 2) (omega arith)
 
--- need number j of those at p
-abbrev pub need : List ℕ → ℕ → ℕ → ℕ
-need bs p j = number_at bs (p + 2 * j) 2
-
--- the first j needs ascend, none is i, and the next one is to be at least so much
-pub record Ascending (bs : List ℕ) (p i j least : ℕ) : Type 0 where
-  pub first : j ≡ 0 → least ≡ 0
-  pub next : (k : ℕ) → k + 1 ≡ j → least ≡ need bs p k + 1
-  pub ascending : (k : ℕ) → k + 1 < j → need bs p k < need bs p (k + 1)
-  pub others : (k : ℕ) → k < j → need bs p k ≢ i
-
-pub ascending_none : (bs : List ℕ) (p i : ℕ) → Ascending bs p i 0 0
-ascending_none bs p i = record {
-  first = λ e. refl;
-  next = λ k e. absurd (omega arith);
-  ascending = λ k h. absurd (omega arith);
-  others = λ k h. absurd (omega arith);
-}
-
-pub ascending_more : (bs : List ℕ) (p i j least n : ℕ) → Ascending bs p i j least → n ≡ need bs p j → least ≤ n → (n ≡ i → ⊥) → Ascending bs p i (j + 1) (n + 1)
-ascending_more bs p i j least n a is enough other = record {
-  first = λ e. absurd (omega arith);
-  next = λ k e. let here : k ≡ j = omega arith in omega (arith, is, ap (need bs p) here);
-  ascending = λ k h.
-      ⊎_elim (λ (l : k + 1 < j). a.ascending k l)
-      (λ (l : j ≤ k + 1). let here : k + 1 ≡ j = omega arith in omega (arith, is, a.next k here, ap (need bs p) here))
-      (cases_lt (k + 1) j);
-  others = λ k h.
-      ⊎_elim (λ (l : k < j). a.others k l)
-      (λ (l : j ≤ k). let here : k ≡ j = omega arith in λ own. other (is ∙ ap (need bs p) (sym here) ∙ own))
-      (cases_lt k j);
-}
-
-pub ascending_done : (bs : List ℕ) (p i j k least : ℕ) → Ascending bs p i j least → k ≤ j → Ordered i (needs_at bs p k)
-ascending_done bs p i j k least a all =
+-- needs ascend, and none is i, where each of them is in order
+pub ordered_from : (bs : List ℕ) (p i k : ℕ) → ((j : ℕ) → j < k → InOrder bs p i j) → Ordered i (needs_at bs p k)
+ordered_from bs p i k each =
     let long = length_needs_at bs p k in
     record {
-      ascending = λ m inside. omega (arith, a.ascending m (omega arith), get_or_needs_at bs p k m (omega arith), get_or_needs_at bs p k (m + 1) (omega arith));
-      others = All-from_get_or (λ n. n ≢ i) (needs_at bs p k) 0 (λ m inside own. a.others m (omega arith) (sym (get_or_needs_at bs p k m (omega arith)) ∙ own));
+      ascending = λ j inside. let before : j + 1 - 1 ≡ j = omega arith in omega (arith, (each (j + 1) (omega arith)).0 (omega arith), ap (λ m. number_at bs (p + 2 * m) 2) before, get_or_needs_at bs p k j (omega arith), get_or_needs_at bs p k (j + 1) (omega arith));
+      others = All-from_get_or (λ n. n ≢ i) (needs_at bs p k) 0 (λ j inside own. (each j (omega arith)).1 (sym (get_or_needs_at bs p k j (omega arith)) ∙ own));
     }
 
--- a need that is not above the one before it
-pub not_ascending : (bs : List ℕ) (p i j k least n : ℕ) → Ascending bs p i j least → j < k → n ≡ need bs p j → n < least → Ordered i (needs_at bs p k) → ⊥
-not_ascending bs p i zero k least n a inside is low o = omega (arith, a.first refl)
-not_ascending bs p i (suc j) k least n a inside is low o =
-    let next : j + 1 ≡ suc j = omega arith in
-    omega (
-      arith,
-      is,
-      a.next j next,
-      o.ascending j (omega (arith, length_needs_at bs p k)),
-      get_or_needs_at bs p k j (omega arith),
-      get_or_needs_at bs p k (j + 1) (omega arith),
-      ap (need bs p) next,
+pub in_order_from : (bs : List ℕ) (p i k : ℕ) → Ordered i (needs_at bs p k) → (j : ℕ) → j < k → InOrder bs p i j
+in_order_from bs p i k o j inside =
+    let long = length_needs_at bs p k in
+    let here = get_or_needs_at bs p k j inside in (
+      λ some. let next : j - 1 + 1 ≡ j = omega arith in omega (arith, o.ascending (j - 1) (omega arith), get_or_needs_at bs p k (j - 1) (omega arith), ap (λ m. get_or (needs_at bs p k) m 0) next, here),
+      λ own. All-get_or (λ n. n ≢ i) (needs_at bs p k) j 0 (omega arith) o.others (here ∙ own),
     )
 
--- a need of the record's own number
-pub not_other : (bs : List ℕ) (p i j k n : ℕ) → j < k → n ≡ need bs p j → n ≡ i → Ordered i (needs_at bs p k) → ⊥
-not_other bs p i j k n inside is own o =
-    let long = length_needs_at bs p k in
-    All-get_or (λ n. n ≢ i) (needs_at bs p k) j 0 (omega arith) o.others (get_or_needs_at bs p k j inside ∙ sym is ∙ own)
+-- what holds of four numbers, of those below k, holds of each below k
+by_four : (P : ℕ → Type 0) (k : ℕ) → k ≤ 4 → (0 < k → P 0) → (1 < k → P 1) → (2 < k → P 2) → (3 < k → P 3) → (j : ℕ) → j < k → P j
+by_four P k few a b c d zero h = a h
+by_four P k few a b c d (suc zero) h = b h
+by_four P k few a b c d (suc (suc zero)) h = c h
+by_four P k few a b c d (suc (suc (suc zero))) h = d h
+by_four P k few a b c d (suc (suc (suc (suc j)))) h = absurd (omega arith)
+
+-- four tests tell whether up to four needs are in order
+module _ (bs : List ℕ) (p i k : ℕ) (few : k ≤ 4) where
+  pub four_tell : (a b c d : Bool) → Decides a (0 < k → InOrder bs p i 0) → Decides b (1 < k → InOrder bs p i 1) → Decides c (2 < k → InOrder bs p i 2) → Decides d (3 < k → InOrder bs p i 3) → Decides (a && b && c && d) (Ordered i (needs_at bs p k))
+  four_tell false b c d x y z w = (λ t. absurd (false≢true t), λ o. x.1 (in_order_from bs p i k o 0))
+  four_tell true false c d x y z w = (λ t. absurd (false≢true t), λ o. y.1 (in_order_from bs p i k o 1))
+  four_tell true true false d x y z w = (λ t. absurd (false≢true t), λ o. z.1 (in_order_from bs p i k o 2))
+  four_tell true true true false x y z w = (λ t. absurd (false≢true t), λ o. w.1 (in_order_from bs p i k o 3))
+  four_tell true true true true x y z w = (λ t. ordered_from bs p i k (by_four (InOrder bs p i) k few (x.0 refl) (y.0 refl) (z.0 refl) (w.0 refl)), λ o. refl)
 
 -- needs that ascend are at most the last one
 ascends : (i : ℕ) (ns : List ℕ) → Ordered i ns → (k d : ℕ) → k + d < length ns → get_or ns k 0 ≤ get_or ns (k + d) 0

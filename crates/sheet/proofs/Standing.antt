@@ -2,6 +2,7 @@
 use Rattle.std.proofs.Common.{◌≡◌, ℕ, zero, suc, ◌+◌, ◌-◌, ◌*◌, ◌/◌, ◌%◌, ◌^◌, ◌<◌, ◌≤◌, List, ◌∷◌, ◌++◌, length, get_or, drop, Some, None, Option, sym, refl, ap, ◌∙◌, arith}
 use Rattle.std.proofs.lemmas.List.{append_assoc, take-append-drop, drop-drop, drop_more}
 use Rattle.std.specs.List.{AllByRecursion}
+use Rattle.sheet.specs.declared.records.Record.{Record}
 use Rattle.sheet.specs.Format.{Entry, bytes, amount_bytes, need_bytes, flag, bit_map, entry_bytes}
 use Rattle.sheet.specs.Sound.{Under, Fits}
 use Rattle.sheet.specs.Places.{number_at, amount_at, needs_at, kind_of, earning_place, cost_place, entry_at, place, placed}
@@ -75,6 +76,10 @@ stands_there bs i p m k =
     let earning = sym (earning_of_kind (field (m % 2) from) (field (m / 2 % 2) (from + 4 * (m % 2)))) in
     let cost = sym (cost_of_kind (field (m % 2) from) (field (m / 2 % 2) (from + 4 * (m % 2)))) in
     λ j. record { earning = amount_at bs (earning j); cost = amount_at bs (cost j); needs = needs_at bs (from + 4 * (m % 2) + 4 * (m / 2 % 2)) k }
+
+-- the entry at the places of a record is the one in the fields of the bit map that laid it
+pub stood_at : (bs : List ℕ) (i p m k : ℕ) (r : Record) → r ≡ laid i p m k → stood bs p m k ≡ entry_at bs r
+stood_at bs i p m k r is = stands_there bs i p m k ∙ ap (entry_at bs) (sym is)
 
 -- the places that the bit map m gives record number i, which begins at p and has k needs
 module _ (bs : List ℕ) (i p m k : ℕ) (small : Bytes bs) (low : m < 64) (run : m / 4 % 16 ≡ 2 ^ k - 1) (few : k ≤ 4) where

@@ -1,7 +1,7 @@
 -- Where a bit map puts the fields of a record, and what is laid out where nothing is asked.
-use Rattle.std.specs.Prelude.{ℕ, zero, suc, ◌+◌, ◌*◌, ◌/◌, ◌%◌, ◌^◌, ◌==◌, cond, List, length, Some, None, Option, nat_lt, slice_index}
+use Rattle.std.specs.Prelude.{ℕ, zero, suc, ◌+◌, ◌-◌, ◌<◌, ◌≢◌, ◌*◌, ◌/◌, ◌%◌, ◌^◌, ◌==◌, cond, List, length, Some, None, Option, nat_lt, slice_index}
 use Rattle.sheet.specs.declared.records.Record.{Record}
-use Rattle.sheet.specs.Places.{Cursor, kind_of}
+use Rattle.sheet.specs.Places.{Cursor, kind_of, number_at}
 
 -- the place p, where the bit stands
 abbrev pub field : ℕ → ℕ → Option ℕ
@@ -35,3 +35,7 @@ laid_ahead bs from = cond (nat_lt from.at (length bs)) (Some (laid from.number f
 abbrev pub behind : Cursor → Option Record → Cursor
 behind from None = from
 behind from (Some r) = record { at = r.end; number = cond (nat_lt (from.number + 1) (2 ^ 64)) (from.number + 1) from.number }
+
+-- of the needs at p, number j is above the one before it, and is not i
+abbrev pub InOrder : List ℕ → ℕ → ℕ → ℕ → Type 0
+InOrder bs p i j = (0 < j → number_at bs (p + 2 * (j - 1)) 2 < number_at bs (p + 2 * j) 2) × (number_at bs (p + 2 * j) 2 ≢ i)

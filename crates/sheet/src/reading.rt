@@ -70,12 +70,13 @@ impl<'a> Reader<'a> {
         Some(found)
     }
 
-    // The amount at a place, and 0 where there is no place.
+    // The amount at a place, and 0 where there is no place. Which records have one is not foreseen, so some is read in any case.
     #[inline(always)]
     fn amount(&self, place: Option<usize>) -> u32
         ensures { result ≡ amount (amount_at (sheet_of self.now) place) }
     {
-        place.map_or(0, |at| amount_at(self.sheet, at))
+        let amount = amount_at(self.sheet, place.unwrap_or(0));
+        if place.is_some() { amount } else { 0 }
     }
 
     // What the entry earns that stands at the places of a record; 0 where it has no earning.

@@ -1,7 +1,7 @@
 // A record of a sheet, told as places, and the questions that are put to it.
 ghost use Rattle.std.specs.Prelude.{◌≡◌, ℕ, ◌+◌, ◌-◌, ◌*◌, ◌/◌, ◌%◌, ◌^◌, ◌<◌, ◌≤◌, length, drop, Some, Ok, Decides, MatchOption, MatchResult, slice_index};
 ghost use Rattle.sheet.specs.Answers.{First};
-ghost use Rattle.sheet.specs.Layout.{announced, field, laid};
+ghost use Rattle.sheet.specs.Layout.{InOrder, announced, field, laid};
 ghost use Rattle.sheet.specs.Places.{HandedOut, InTurn, SoundAhead, amount_at, cost_place, earning_place, kind_of, needs_at};
 ghost use Rattle.sheet.specs.Sound.{InRange, Ordered};
 
@@ -36,15 +36,21 @@ impl Kind {
         }
     }
 
-    // The place of the earning, where there is one. It and the cost's go by their own names, and each reads its own variants.
+    // The place of the earning, where there is one. It and the cost's go by their own names, and each reads its own variants. They are
+    // told apart one by one, since a match on all four is a jump that no processor foresees.
     #[inline(always)]
     pub(crate) fn earning(self) -> Option<usize>
         ensures { result ≡ earning_place self }
     {
-        match self {
-            Kind::Earns { earning } | Kind::Both { earning, .. } => Some(earning),
-            Kind::Bare | Kind::Costs { .. } => None,
-        }
+        let alone = match self {
+            Kind::Earns { earning } => Some(earning),
+            _ => None,
+        };
+        let beside = match self {
+            Kind::Both { earning, .. } => Some(earning),
+            _ => None,
+        };
+        alone.or(beside)
     }
 
     // The place of the cost, where there is one.
@@ -52,10 +58,15 @@ impl Kind {
     pub(crate) fn cost(self) -> Option<usize>
         ensures { result ≡ cost_place self }
     {
-        match self {
-            Kind::Costs { cost } | Kind::Both { cost, .. } => Some(cost),
-            Kind::Bare | Kind::Earns { .. } => None,
-        }
+        let alone = match self {
+            Kind::Costs { cost } => Some(cost),
+            _ => None,
+        };
+        let beside = match self {
+            Kind::Both { cost, .. } => Some(cost),
+            _ => None,
+        };
+        alone.or(beside)
     }
 }
 
@@ -111,60 +122,98 @@ fn present(bit: u8, place: usize) -> Option<usize>
     (bit != 0).then_some(place)
 }
 
+// The place of the earning of a record that begins at `byte` with the bit map `map`, where it has one.
+#[inline(always)]
+fn earning_of(byte: usize, map: u8) -> Option<usize>
+    requires { byte < 2 ^ 63 }
+    ensures { result ≡ field (map % 2) (byte + 1) }
+{
+    present(map & 1, byte + 1)
+}
+
+// The place of its cost, where it has one.
+#[inline(always)]
+fn cost_of(byte: usize, map: u8) -> Option<usize>
+    requires { byte < 2 ^ 63 }
+    ensures { result ≡ field (map / 2 % 2) (byte + 1 + 4 * (map % 2)) }
+{
+    present((map >> 1) & 1, byte + 1 + 4 * usize::from(map & 1))
+}
+
 // Where the fields stand of a record that begins at `byte` with the bit map `map`.
 #[inline(always)]
 fn layout(number: usize, byte: usize, map: u8, count: u8) -> Record
     requires { byte < 2 ^ 63 }
     ensures { result ≡ laid number byte map count }
 {
-    let earning = map & 1;
-    let cost = (map >> 1) & 1;
-    let after_map = byte + 1;
-    let after_earning = after_map + 4 * usize::from(earning);
-    let after_cost = after_earning + 4 * usize::from(cost);
+    let needs = byte + 1 + 4 * usize::from(map & 1) + 4 * usize::from((map >> 1) & 1);
     Record {
         number,
         byte,
-        kind: Kind::of(present(earning, after_map), present(cost, after_earning)),
-        needs: after_cost,
+        kind: Kind::of(earning_of(byte, map), cost_of(byte, map)),
+        needs,
         count,
-        end: after_cost + 2 * usize::from(count),
+        end: needs + 2 * usize::from(count),
     }
 }
 
-// Whether the amount at a place of the sheet, if there is one, is between 1 and the largest.
+// Whether the amount at a place, if there is one, is between 1 and the largest. Which records have one is not foreseen, so some amount is
+// read in any case.
 #[inline(always)]
 fn amount_in_range(sheet: &[u8], place: Option<usize>) -> bool
     requires { (at : ℕ) → place ≡ Some at → at + 4 ≤ length sheet.now }
     ensures { Decides result (InRange (amount_at sheet.now place)) }
 {
-    place.is_none_or(|at| (1..=MOST_AMOUNT).contains(&whole_amount_at(sheet, at)))
+    // a record of so short a sheet has no amount
+    if sheet.len() < 4 {
+        return true;
+    }
+    let amount = whole_amount_at(sheet, place.unwrap_or(0));
+    let asked = if place.is_some() { amount } else { 1 };
+    (1..=MOST_AMOUNT).contains(&asked)
 }
 
-// Whether the amounts of a record, which the sheet has, are in their range.
+// Whether the amounts of a record that begins at `byte` with the bit map `map`, which the sheet has, are in their range.
 #[inline(always)]
-fn amounts_in_range(sheet: &[u8], found: &Record) -> bool
-    requires earning { (at : ℕ) → earning_place found.now.kind ≡ Some at → at + 4 ≤ length sheet.now }
-    requires cost { (at : ℕ) → cost_place found.now.kind ≡ Some at → at + 4 ≤ length sheet.now }
-    ensures { Decides result (InRange (amount_at sheet.now (earning_place found.now.kind)) × InRange (amount_at sheet.now (cost_place found.now.kind))) }
+fn amounts_in_range(sheet: &[u8], byte: usize, map: u8) -> bool
+    requires { byte + 1 + 4 * (map % 2) + 4 * (map / 2 % 2) ≤ length sheet.now }
+    ensures { Decides result (InRange (amount_at sheet.now (field (map % 2) (byte + 1))) × InRange (amount_at sheet.now (field (map / 2 % 2) (byte + 1 + 4 * (map % 2))))) }
 {
-    amount_in_range(sheet, found.kind.earning()) && amount_in_range(sheet, found.kind.cost())
+    let earning = amount_in_range(sheet, earning_of(byte, map));
+    let cost = amount_in_range(sheet, cost_of(byte, map));
+    earning && cost
 }
 
-// Whether the needs of a record, which the sheet has, ascend, and none is its own number.
+// Whether need number `j` of a record, where it has so many, is above the one before it and is not the record's own number.
+#[inline(always)]
+fn need_in_order(sheet: &[u8], found: &Record, j: u8) -> bool
+    requires { found.now.needs + 2 * j + 2 ≤ length sheet.now }
+    ensures { Decides result (j < found.now.count → InOrder sheet.now found.now.needs found.now.number j) }
+{
+    let need = whole_need_at(sheet, found.needs, j);
+    let before = whole_need_at(sheet, found.needs, j.saturating_sub(1));
+    let is_above = (j == 0) | (before < need);
+    (j >= found.count) | (is_above & (usize::from(need) != found.number))
+}
+
+// Whether the needs of a record, which the sheet has, ascend, and none is its own number. Where there are bytes for four needs, the
+// questions are put for four in any case, since how many a record has is not foreseen.
 #[inline(always)]
 fn needs_ordered(sheet: &[u8], found: &Record) -> bool
-    requires { found.now.needs + 2 * found.now.count ≤ length sheet.now }
+    requires whole { found.now.needs + 2 * found.now.count ≤ length sheet.now }
+    requires few { found.now.count ≤ 4 }
     ensures { Decides result (Ordered found.now.number (needs_at sheet.now found.now.needs found.now.count)) }
 {
-    // what the next need is at least
-    let mut least = 0;
+    if sheet.len() - found.needs >= 8 {
+        return need_in_order(sheet, found, 0)
+            & need_in_order(sheet, found, 1)
+            & need_in_order(sheet, found, 2)
+            & need_in_order(sheet, found, 3);
+    }
     for j in 0..found.count {
-        let need = usize::from(whole_need_at(sheet, found.needs, j));
-        if need < least || need == found.number {
+        if !need_in_order(sheet, found, j) {
             return false;
         }
-        least = need + 1;
     }
     true
 }
@@ -188,7 +237,7 @@ pub(crate) fn record_at(sheet: &[u8], number: usize, at: usize) -> Result<Record
     if found.end > sheet.len() {
         return Err(Fault::CutShort);
     }
-    if !amounts_in_range(sheet, &found) {
+    if !amounts_in_range(sheet, at, map) {
         return Err(Fault::AmountRange);
     }
     if !needs_ordered(sheet, &found) {

@@ -11,7 +11,8 @@ use super::records::Record;
 use super::refusal::SheetRefusal;
 
 // Reads a whole sheet: the first question that fails is the refusal. Only where an entry is missing is it gone through a second time, for
-// the first record that needs one.
+// the first record that needs one. It is not put in line, where a program's own loops would have fewer registers left.
+#[inline(never)]
 pub fn read(sheet: &[u8]) -> Result<Counts, SheetRefusal>
     ensures { TheAnswer sheet.now result }
 {

@@ -1,26 +1,25 @@
-use Rattle.std.proofs.Common.{refl, ◌∙◌}
-use Rattle.std.proofs.lemmas.Bool.{false≢true}
-use Rattle.sheet.proofs.Needs.{ascending_none, ascending_more, ascending_done, not_ascending, not_other}
+use Rattle.std.proofs.Common.{◌<◌, ◌≤◌, ◌+◌, refl, sym, subst, ⊎_elim, arith}
+use Rattle.std.proofs.lemmas.Bool.{cases_lt, false≢true}
+use Rattle.sheet.specs.Layout.{InOrder}
+use Rattle.sheet.proofs.Needs.{four_tell, ordered_from, in_order_from}
 use Rattle.sheet.proofs.records.needs_ordered.Goals as goal
-use Rattle.sheet.proofs.records.needs_ordered.Goals.{then-need-least-via-then-need-least, then-need-least-via-else-need-least+then-need-found}
+
+pub returns-then-sheet-found-ge8 : goal.returns-then-sheet-found-ge8
+returns-then-sheet-found-ge8 c =
+    four_tell _ _ _ _ c.requires.few _ _ _ _ c.need_in_order.ensures c.need_in_order-then-sheet-found-ge8.ensures c.need_in_order-then-sheet-found-ge8-2.ensures c.need_in_order-then-sheet-found-ge8-3.ensures
 
 pub loop-j-init : goal.loop-j-init
-loop-j-init c = ascending_none _ _ _
+loop-j-init c = λ k h. absurd (omega arith)
 
-pub returns-then-need-least : goal.returns-then-need-least
-returns-then-need-least c =
-    let is = c.from-need.ensures ∙ c.whole_need_at.ensures in
-    let inside = c.loop-j-test.true in (
-      λ t. absurd (false≢true t),
-      λ o. absurd (elim c.then-need-least.branch [
-        | then-need-least-via-then-need-least w ↦ not_ascending _ _ _ _ _ _ _ c.loop-j.invariant inside is w.if-need-least.true o
-        | then-need-least-via-else-need-least+then-need-found w ↦ not_other _ _ _ _ _ _ inside is w.if-need-found.true o
-      ]),
-    )
+pub returns-then-not-need_in_order : goal.returns-then-not-need_in_order
+returns-then-not-need_in_order c =
+    (λ t. absurd (false≢true t), λ o. absurd (false≢true (c.if-not-need_in_order.ensures.1 (λ inside. in_order_from _ _ _ _ o _ inside))))
 
 pub loop-j-preserved : goal.loop-j-preserved
-loop-j-preserved c =
-    ascending_more _ _ _ _ _ _ c.loop-j.invariant (c.from-need.ensures ∙ c.whole_need_at.ensures) c.if-need-least.false c.if-need-found.false
+loop-j-preserved c = λ k h.
+    ⊎_elim (λ (l : k < c.loop-j.j). c.loop-j.invariant k l)
+    (λ (l : c.loop-j.j ≤ k). subst (InOrder c.args.sheet.now c.args.found.now.needs c.args.found.now.number) (omega arith) (c.if-not-need_in_order.ensures.0 refl c.loop-j-test.true))
+    (cases_lt k c.loop-j.j)
 
 pub returns : goal.returns
-returns c = (λ t. ascending_done _ _ _ _ _ _ c.loop-j.invariant c.loop-j-test.false, λ o. refl)
+returns c = (λ t. ordered_from _ _ _ _ (λ k h. c.loop-j.invariant k (omega (arith, c.loop-j-test.false))), λ o. refl)

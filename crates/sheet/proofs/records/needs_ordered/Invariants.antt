@@ -1,5 +1,6 @@
-use Rattle.sheet.proofs.Needs.{Ascending}
+use Rattle.std.proofs.Common.{ℕ, ◌<◌}
+use Rattle.sheet.specs.Layout.{InOrder}
 use Rattle.sheet.proofs.records.needs_ordered.Given as goal
 
 abbrev pub invariant-loop-j : goal.invariant-loop-j
-invariant-loop-j l = Ascending l.sheet l.found.needs l.found.number l.j l.least
+invariant-loop-j l = (k : ℕ) → k < l.j → InOrder l.sheet l.found.needs l.found.number k
