@@ -1,6 +1,7 @@
 -- The first pass of loading: the entries.
 use Rattle.std.proofs.Common.{◌≡◌, ℕ, ◌+◌, ◌<◌, ◌≤◌, true, List, [], ◌∷◌, ◌++◌, map, length, get_or, take, Some, None, Ok, Err, Option, Result, sym, refl, ap, ◌∙◌, subst, arith}
 use Rattle.std.specs.Result.{is_ok}
+use Rattle.std.proofs.lemmas.Bool.{false≢true}
 use Rattle.std.proofs.lemmas.Bool.Decides.{nat_tests}
 use Rattle.std.proofs.lemmas.List.{length-map, length-take-le, map-append, take_all, take_more}
 use Rattle.sheet.specs.declared.records.Record.{Record}
@@ -46,6 +47,11 @@ passes bs es from to s t r x room e h =
 pub entered_ok : (t u : Open) (x y : ℕ) (r : Result ℕ EnterRefusal) → enter_refused t x y ≡ None → Entered t x y r u → is_ok r ≡ true
 entered_ok t u x y (Ok i) none h = refl
 entered_ok t u x y (Err e) none h = let never : ◌≡◌ {A = ℕ} 0 1 = cc in absurd (omega arith)
+
+-- what is entered without a refusal has a number
+pub entered_some : (t u : Open) (x y : ℕ) (r : Result ℕ EnterRefusal) → is_ok r ≡ true → Entered t x y r u → (i : ℕ) × Entered t x y (Ok i) u
+entered_some t u x y (Ok i) ok h = (i, h)
+entered_some t u x y (Err e) ok h = absurd (false≢true ok)
 
 -- so it is entered
 pub enters : (bs : List ℕ) (es : List Entry) (from to : Cursor) (s t u : Open) (r : Record) (a : Result ℕ EnterRefusal) → SheetOf bs es → used (book_of es) ≤ length s.table.now → EntriesRead bs es from s t → HandedOut bs from to r → Entered t (amount (entry_at bs r).earning) (amount (entry_at bs r).cost) a u → is_ok a ≡ true

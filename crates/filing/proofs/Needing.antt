@@ -4,7 +4,7 @@ use Rattle.std.specs.List.{slice_get}
 use Rattle.std.specs.Option.{is_some}
 use Rattle.std.specs.Result.{is_ok}
 use Rattle.std.proofs.ByRecursion.{All-get_or}
-use Rattle.std.proofs.lemmas.Bool.{ne_eqb}
+use Rattle.std.proofs.lemmas.Bool.{ne_eqb, false≢true}
 use Rattle.std.proofs.lemmas.Bool.Decides.{nat_tests}
 use Rattle.std.proofs.lemmas.List.{append_assoc, get_or-take, length-append, length-map, length-take-le, map-append, take_all, take_more}
 use Rattle.std.proofs.lemmas.List.Elements.{All-from_get_or}
@@ -80,6 +80,11 @@ passes s t u j ns f filled inside =
 pub needed_ok : (t v : Open) (u w : ℕ) (a : Result (Unit {0}) NeedRefusal) → need_refused t u w ≡ None → Needed t u w a v → is_ok a ≡ true
 needed_ok t v u w (Ok i) none h = refl
 needed_ok t v u w (Err e) none h = let never : ◌≡◌ {A = ℕ} 0 1 = cc in absurd (omega arith)
+
+-- what is needed without a refusal is entered
+pub needed_some : (t v : Open) (u w : ℕ) (a : Result (Unit {0}) NeedRefusal) → is_ok a ≡ true → Needed t u w a v → Needed t u w (Ok tt) v
+needed_some t v u w (Ok i) ok h = h
+needed_some t v u w (Err e) ok h = absurd (false≢true ok)
 
 -- so it is entered
 pub enters : (s t v : Open) (u j : ℕ) (ns : List ℕ) (a : Result (Unit {0}) NeedRefusal) → NeedsFit s u ns → Filled (with_needs s.book u (take j ns)) s t → j < length ns → Needed t u (get_or ns j 0) a v → is_ok a ≡ true
