@@ -9,9 +9,6 @@ use sheet::Counts;
 use std::alloc::{AllocError, Global};
 use tile::{MOST_SIDE, Pixel, Tile};
 
-// How many records a tile's table has: one for each pixel of the largest tile.
-const RECORDS: usize = MOST_SIDE * MOST_SIDE;
-
 // How many words of the trail each run has for a node: most cuts are then found by one run or two.
 const WORDS_EACH: usize = 8;
 
@@ -63,7 +60,9 @@ pub fn split_into(
 ) -> Result<Result<u64, LentRefusal>, AllocError>
     ensures { SplitInto width height costs.now marks.old marks.new result }
 {
-    let mut table = vec![in heap; Pixel::default(); RECORDS]?;
+    // a size that is too large is refused over any table
+    let pixels = width.min(MOST_SIDE) * height.min(MOST_SIDE);
+    let mut table = vec![in heap; Pixel::default(); pixels]?;
     let mut tile = Tile::new(&mut table);
     if let Err(refusal) = tile.lay(width, height, costs) {
         return Ok(Err(LentRefusal::Lay(refusal)));
