@@ -108,10 +108,11 @@ impl<N: Network> Tracer<'_, '_, N> {
         requires room { (N.Network.value self.now.net.now).graph.nodes ≤ length arcs.old + 1 }
         ensures { WayWritten (N.Network.value self.now.net.now) (forest_of self.now.table.now) arcs.old arcs.new result }
     {
+        // both ends before anything is written: so the bridge is looked up once
         let tail = near_end(self.net, Terminal::Source, bridge);
+        let head = near_end(self.net, Terminal::Sink, bridge);
         let (below, first) = self.descend(tail, arcs);
         arcs[below] = bridge as u64;
-        let head = near_end(self.net, Terminal::Sink, bridge);
         let (above, last) = self.climb(Terminal::Sink, head, &mut arcs[below + 1..]);
         Way {
             count: below + 1 + above,
