@@ -1,16 +1,14 @@
 -- What a sealed book answers, and what holds of it after a take and after a shift.
-use Rattle.std.proofs.Common.{◌≡◌, ℕ, ◌+◌, ◌-◌, ◌*◌, ◌/◌, ◌%◌, ◌<◌, ◌≤◌, cond, leb, List, length, set, Some, None, Ok, Option, sym, refl, ap, ◌∙◌, subst, ⊎_elim, arith}
+use Rattle.std.proofs.Common.{◌≡◌, ℕ, ◌+◌, ◌-◌, ◌*◌, ◌/◌, ◌%◌, ◌<◌, ◌≤◌, List, length, set, Some, None, Ok, sym, refl, ap, ◌∙◌, subst, ⊎_elim, arith}
 use Rattle.std.specs.List.{slice_get}
 use Rattle.std.proofs.lemmas.Bool.{cases_eq, eq-eqb, ne_eqb, lt-ltb, le-leb}
 use Rattle.std.proofs.lemmas.Bool.Decides.{nat_tests}
 use Rattle.std.proofs.lemmas.List.FromFn.{length-map-range_with_len, get_or-map-range_with_len}
 use Rattle.std.proofs.lemmas.Option.{slice_get-get_or, slice_get_past}
-use Rattle.std.specs.Option.{ok_or}
-use Rattle.network.specs.declared.refusal.NetworkRefusal.TheVariants.{AboveResidual}
 use Rattle.network.specs.declared.terminal.Terminal.{Terminal}
 use Rattle.network.specs.declared.terminal.Terminal.TheVariants.{Source, Sink}
 use Rattle.network.specs.Nets.{Net, with_terminal, taken, shifted}
-use Rattle.network.specs.Answers.{at_node, at_arc, arc_with, arc_answer, done, take_answer, after_take, shift_answer, after_shift}
+use Rattle.network.specs.Answers.{at_arc, arc_with, arc_answer, done, take_answer, after_take, shift_answer, after_shift}
 use Rattle.book.specs.declared.record.Record.{Record}
 use Rattle.book.specs.declared.sealed.SealedBook.{SealedBook}
 use Rattle.book.specs.Books.{amount, mate, binding}

@@ -1,5 +1,5 @@
 // One record of a book's table, and how it is changed.
-ghost use Rattle.std.specs.Prelude.{◌≡◌, ◌+◌, ◌-◌, ◌^◌, ◌<◌, ◌≤◌, cond, take, Some, None, nat_le};
+ghost use Rattle.std.specs.Prelude.{◌≡◌, ◌+◌, ◌^◌, ◌<◌, ◌≤◌, take};
 ghost use Rattle.book.specs.Records.{as_entry, as_arc, needing, with_arc_more, residual_of, with_residual, amount_of, with_amount};
 ghost use Rattle.book.specs.Refusals.{among};
 
