@@ -4,23 +4,24 @@ use Rattle.network.specs.Nets.{Graph, Net, Lawful}
 use Rattle.network.specs.Cuts.{cost}
 use Rattle.network.specs.Sides.{Separate}
 use Rattle.network.proofs.Carrying.{path_lowers, some_amount}
-use Rattle.trees.specs.declared.lane.Lane.TheVariants.{Waiting}
+use Rattle.trees.specs.declared.lane.Lane.TheVariants.{Waiting, Orphans}
 use Rattle.trees.specs.Forests.{Forest}
 use Rattle.trees.specs.Rings.{Empty}
 use Rattle.trees.specs.Trees.{Trees, tree_nodes}
-use Rattle.trees.specs.Surveys.{StagesBelow}
+use Rattle.trees.specs.Surveys.{restaged, StagesBelow}
 use Rattle.trees.specs.Searches.{Bridges, Grows}
 use Rattle.trees.specs.Climbs.{Settled}
+use Rattle.trees.proofs.Changes.{restage_trees}
 use Rattle.trees.proofs.Bridges.{bridge_path}
 use Rattle.trees.proofs.Ending.{separate}
 use Rattle.search.specs.declared.report.Log.{Log}
 use Rattle.search.specs.Trails.{SomeFurther, everything, Bounded, Steps, PauseDue}
 use Rattle.search.proofs.Logs.{logged_more}
 
--- before each turn: the trees stand, every stage is past, and the log tells the paths so far
-pub record Turn (v₀ : Net) (trail₀ : List ℕ) (log₀ : Log) (v : Net) (f : Forest) (trail : List ℕ) (log : Log) : Type 0 where
+-- before each turn: the trees stand, every stage is before this one, and the log tells the paths so far
+pub record Turn (v₀ : Net) (trail₀ : List ℕ) (log₀ : Log) (v : Net) (f : Forest) (stage : ℕ) (trail : List ℕ) (log : Log) : Type 0 where
   pub settled : Settled v f
-  pub stages : StagesBelow f (log.paths + 1)
+  pub stages : StagesBelow f stage
   pub words : log.words ≤ length trail
   pub bounded : Bounded v log
   pub steps : Steps v₀ v trail₀ trail log₀ log
@@ -29,6 +30,10 @@ pub record Turn (v₀ : Net) (trail₀ : List ℕ) (log₀ : Log) (v : Net) (f :
 -- growth makes no orphans
 pub grown_settled : {v : Net} {f f' : Forest} → Settled v f → Grows f f' → Trees v f' → Settled v f'
 grown_settled s g h = record { trees = h; no_orphans = λ u there. rw g.orphans (s.no_orphans u (omega arith)) }
+
+-- forgotten stages leave the trees as they stand
+pub restaged_settled : {v : Net} {f f' : Forest} → f' ≡ restaged f f'.stage → Trees v f → Empty f Orphans → Settled v f'
+restaged_settled {v = v} {f = f} {f' = f'} is h none = rw is (record { trees = restage_trees v f f'.stage h; no_orphans = none })
 
 -- a bridge is a path that is left
 pub bridge_pauses : {v : Net} {f : Forest} {a : ℕ} (trail : List ℕ) (log : Log) → Lawful v → Settled v f → Bridges v f a → length trail < log.words + (v.graph.nodes + 2) → PauseDue v trail log
@@ -65,6 +70,3 @@ cost_falls {v = v} l (p, further) =
 
 pub words_more : {v w : Net} {trail after : List ℕ} {log more : Log} → SomeFurther v w trail after log more → length after ≡ length trail → more.words ≤ length after
 words_more (p, further) long = omega (arith, further.fits)
-
-pub paths_more : {v w : Net} {trail after : List ℕ} {log more : Log} → SomeFurther v w trail after log more → more.paths ≡ log.paths + 1
-paths_more (p, further) = ap (λ (x : Log). x.paths) further.log

@@ -21,7 +21,7 @@ use trees::{Lane, Parent, Work};
 struct Adoption<'a, N> {
     net: &'a N,
     terminal: Terminal,
-    stage: u64,
+    stage: u16,
 }
 
 impl<N: Network> Adoption<'_, N> {
@@ -161,7 +161,7 @@ impl<N: Network> Adoption<'_, N> {
 }
 
 // The same, compiled for each tree by itself.
-fn adopt_in<N: Network>(net: &N, table: &mut Table, terminal: Terminal, stage: u64, node: usize)
+fn adopt_in<N: Network>(net: &N, table: &mut Table, terminal: Terminal, stage: u16, node: usize)
     requires trees { TreesBut (N.Network.value net.now) (forest_of table.old) Orphans node }
     requires there { node < (N.Network.value net.now).graph.nodes }
     requires mine { (forest_of table.old).tree node ≡ Some terminal }
@@ -194,7 +194,7 @@ fn adopt_in<N: Network>(net: &N, table: &mut Table, terminal: Terminal, stage: u
 }
 
 // Finds parents for all orphans, or frees them. The stage is a number that no record carries yet.
-pub(crate) fn adopt<N: Network>(net: &N, table: &mut Table, stage: u64)
+pub(crate) fn adopt<N: Network>(net: &N, table: &mut Table, stage: u16)
     requires trees { Trees (N.Network.value net.now) (forest_of table.old) }
     requires fresh { StagesBelow (forest_of table.old) stage }
     ensures trees { Trees (N.Network.value net.now) (forest_of table.new) }
@@ -206,6 +206,19 @@ pub(crate) fn adopt<N: Network>(net: &N, table: &mut Table, stage: u64)
             adopt_in(net, table, terminal, stage, node);
         }
     }
+}
+
+// The stage after one. Where the numbers have run out it is the first again, and no record carries one any longer.
+pub(crate) fn stage_after(table: &mut Table, stage: u16) -> u16
+    requires { StagesBelow (forest_of table.old) (stage + 1) }
+    ensures trees { forest_of table.new ≡ restaged (forest_of table.old) (forest_of table.new).stage }
+    ensures stages { StagesBelow (forest_of table.new) result }
+{
+    if stage == u16::MAX {
+        table.forget_stages();
+        return 1;
+    }
+    stage + 1
 }
 
 // The tree of an orphan.

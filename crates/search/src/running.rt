@@ -8,7 +8,7 @@ ghost use Rattle.search.specs.Runs.{Run, Promise};
 ghost use Rattle.search.specs.Tables.{forest_of};
 ghost use Rattle.search.specs.Trails.{SomeLogged, SomeFurther, Steps, Bounded, Searched, Ended};
 
-use super::adoption::adopt;
+use super::adoption::{adopt, stage_after};
 use super::carrying::carry;
 use super::growth::grow;
 use super::marking::mark;
@@ -53,7 +53,7 @@ fn search_on<N: Network>(
     log: &mut Log,
 ) -> Outcome
     requires trees { Settled (N.Network.value net.old) (forest_of table.old) }
-    requires stages { StagesBelow (forest_of table.old) (log.old.paths + 1) }
+    requires stages { StagesBelow (forest_of table.old) 1 }
     requires words { log.old.words ≤ length trail.old }
     requires bounded { Bounded (N.Network.value net.old) log.old }
     ensures size { (forest_of table.new).size ≡ (N.Network.value net.old).graph.nodes }
@@ -62,12 +62,14 @@ fn search_on<N: Network>(
     ensures searched { Searched (N.Network.value net.new) (forest_of table.new) trail.new log.new result }
 {
     let count = net.node_count();
+    let mut stage = 1;
     while let Some(bridge) = grow(net, table) {
         if is_short(trail.len(), log.words, count) {
             return Outcome::Paused;
         }
         augment(net, table, trail, log, bridge);
-        adopt(net, table, log.paths);
+        adopt(net, table, stage);
+        stage = stage_after(table, stage);
     }
     Outcome::Finished
 }

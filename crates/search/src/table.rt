@@ -27,6 +27,7 @@ impl<'a> Table<'a> {
     ghost use Rattle.trees.specs.Forests.{cleared, with_tree, with_parent, with_stage, joined, orphaned};
     ghost use Rattle.trees.specs.Rings.{Picked};
     ghost use Rattle.trees.specs.Trees.{is_of};
+    ghost use Rattle.trees.specs.Surveys.{restaged};
     ghost use Rattle.trees.specs.Carryings.{disowned};
     ghost use Rattle.search.specs.Tables.{forest_of, records_of, record_of};
 
@@ -93,11 +94,20 @@ impl<'a> Table<'a> {
     }
 
     // Remembers that a node hangs from its terminal in this stage of adoption.
-    pub(crate) fn set_stage(&mut self, node: usize, stage: u64)
+    pub(crate) fn set_stage(&mut self, node: usize, stage: u16)
         requires { node < (forest_of self.old).size }
         ensures { forest_of self.new ≡ with_stage (forest_of self.old) node stage }
     {
         self.work[node].stage = stage;
+    }
+
+    // Forgets of all nodes in which stage they were last found to hang from their terminal.
+    pub(crate) fn forget_stages(&mut self)
+        ensures { forest_of self.new ≡ restaged (forest_of self.old) (λ _. 0) }
+    {
+        for node in 0..self.work.len() {
+            self.set_stage(node, 0);
+        }
     }
 
     // Puts a node into a queue, behind the last; nothing if it is there already.

@@ -7,6 +7,8 @@ pub(crate) const OLD: u64 = 99;
 
 const OLD_PLACE: u16 = 99;
 
+const OLD_STAGE: u16 = 99;
+
 pub(crate) const OLD_MARK: u8 = 9;
 
 // A record that no run has written.
@@ -16,7 +18,7 @@ pub(crate) fn old_record() -> Work {
             waiting: OLD_PLACE,
             orphans: OLD_PLACE,
         },
-        stage: OLD,
+        stage: OLD_STAGE,
         ..Work::blank()
     }
 }
@@ -32,7 +34,7 @@ pub(crate) fn kept_from(
     byte: usize,
 ) {
     for i in record..work.len() {
-        assert_eq!(rt; work[i].stage, OLD);
+        assert_eq!(rt; work[i].stage, OLD_STAGE);
         assert_eq!(rt; work[i].slots.waiting, OLD_PLACE);
         assert_eq!(rt; work[i].slots.orphans, OLD_PLACE);
     }

@@ -14,6 +14,7 @@ pub mod Picking
 pub mod Planting
 pub mod Stepping
 pub mod Remembering
+pub mod Forgetting
 pub mod Adopting
 pub mod Disowning
 pub mod Ways

@@ -88,7 +88,7 @@ pub struct Work {
     // the node that stands at this record's place in the ring of a queue
     pub slots: Lanes<u16>,
     // the stage of adoption in which it was last seen to hang from its terminal
-    pub stage: u64,
+    pub stage: u16,
 }
 
 impl Work {

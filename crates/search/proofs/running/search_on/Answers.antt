@@ -1,5 +1,5 @@
 use Rattle.std.proofs.Common.{ℕ, ap, ◌∙◌, arith}
-use Rattle.search.proofs.Turns.{grown_settled, bridge_pauses, ended, steps_more, bounded_more, nodes_more, cost_falls, words_more, paths_more}
+use Rattle.search.proofs.Turns.{grown_settled, restaged_settled, bridge_pauses, ended, steps_more, bounded_more, nodes_more, cost_falls, words_more}
 use Rattle.search.proofs.running.search_on.Goals as goal
 
 pub returns-then-is_short-clause-searched : goal.returns-then-is_short-clause-searched
@@ -13,7 +13,6 @@ augment-requires-clause-trees g c = grown_settled c.loop-bridge.invariant.0.sett
 pub adopt-requires-clause-fresh : goal.adopt-requires-clause-fresh
 adopt-requires-clause-fresh g c =
     let same = c.augment.ensures.stages ∙ c.in-Some.ensures.grows.stages in
-    let more = paths_more c.augment.ensures.further in
     λ u. omega (arith, c.loop-bridge.invariant.0.stages u, ap (λ (s : ℕ → ℕ). s u) same)
 
 pub loop-bridge-smaller : goal.loop-bridge-smaller
@@ -26,8 +25,8 @@ loop-bridge-preserved g c =
     let further = c.augment.ensures.further in
     let after = c.adopt.ensures in (
       record {
-        settled = record { trees = after.trees; no_orphans = after.adopted };
-        stages = after.stages;
+        settled = restaged_settled c.stage_after-stage.ensures.trees after.trees after.adopted;
+        stages = c.stage_after-stage.ensures.stages;
         words = words_more further c.augment.auto.trail;
         bounded = bounded_more l turn.bounded further;
         steps = steps_more turn.steps further;
