@@ -60,6 +60,8 @@ impl<'a> Reader<'a> {
         ensures sheet { sheet_of self.new ≡ sheet_of self.old }
         ensures handed { NoneRefused (sheet_of self.old) (cursor self.old) → Handed (sheet_of self.old) (cursor self.old) (cursor self.new) (Ok result) }
         ensures in_turn { InTurn (sheet_of self.old) (cursor self.old) (Ok result) }
+        ensures laid { result ≡ laid_ahead (sheet_of self.old) (cursor self.old) }
+        ensures behind { cursor self.new ≡ behind (cursor self.old) result }
     {
         if self.at >= self.sheet.len() {
             return None;
