@@ -13,7 +13,7 @@ use super::table::Table;
 use super::tracing::Traced;
 use network::{Network, Terminal};
 
-// Sends an amount along an arc; if that empties it, whoever hangs from it becomes an orphan.
+// Sends an amount along an arc; if that empties it, whoever hangs from it becomes an orphan first.
 fn send<N: Network>(net: &mut N, table: &mut Table, arc: usize, amount: u64)
     requires trees { Trees (N.Network.value net.old) (forest_of table.old) }
     requires onward { OnwardArc (N.Network.value net.old) (forest_of table.old) arc }
@@ -23,13 +23,14 @@ fn send<N: Network>(net: &mut N, table: &mut Table, arc: usize, amount: u64)
     ensures trees { Trees (N.Network.value net.new) (forest_of table.new) }
     ensures same { Carries (forest_of table.old) (forest_of table.new) }
 {
-    // shifted in both arms, and the ends asked for before: so the arc is looked up once, for all that is asked of it
+    // the ends are asked for before anything is written, so that one look serves all that is asked; an arc that is emptied is shifted last, so
+    // that the trees stand after every step
     if residual(net, arc) == amount {
         let tail = near_end(net, Terminal::Source, arc);
         let head = near_end(net, Terminal::Sink, arc);
-        shift_along(net, arc, amount);
         table.disown(tail, arc);
         table.disown(head, arc);
+        shift_along(net, arc, amount);
     } else {
         shift_along(net, arc, amount);
     }
