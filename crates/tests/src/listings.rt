@@ -18,6 +18,12 @@ fn text_of_an_answer(rt: HostRuntime) -> Result<(), Fail> {
         &[0x00],
         "entries 1 needs 0\nleast 0 net 0\n0 either\n",
     )?;
+    listed(
+        &rt,
+        heap,
+        &[0x04, 0, 1, 0x00],
+        "entries 2 needs 1\nleast 0 net 0\n0 either\n1 either\n",
+    )?;
     // entry 0 earns 9 and needs entry 1, which costs 4
     let sheet = [0x05, 0, 0, 0, 9, 0, 1, 0x02, 0, 0, 0, 4];
     listed(
